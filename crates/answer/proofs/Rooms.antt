@@ -1,0 +1,40 @@
+-- What a reply comes to where its text has room, and where it has none.
+--     Answered      an answer and a room at exit are what a reply and the room at entry say
+--     refused       a refusal leaves the room as it was
+--     no-room       a text longer than the room: refusal 7
+--     written       a text that has room stands at the front
+--     copied        a turn of the loop that writes it
+use mathlib.Core.Path.{_≡_, refl, sym, ap, _∙_}
+use mathlib.Core.Bool.{Bool, cond}
+use mathlib.Core.List.{List, _++_}
+use Prim.Native.Nat.{ℕ, _+_, _≤_, _<_}
+use native.Mathlib.Nat.{zero-add}
+use native.Mathlib.Numerals.{add-one}
+use lib.ListN.{length, take, drop, getD, set}
+use lib.Seq.{paste-suc}
+use borrow.Author.Tests.{le-leb, lt-leb}
+use Rattle.answer.specs.Replies.{Reply, refuse, text, outputOf, roomAfter}
+use Rattle.answer.specs.declared.refusal.Refusal.{Refusal}
+use Rattle.answer.specs.declared.refusal.Refusal.the-variants.{NoRoom}
+use Rattle.answer.specs.declared.output.Output.{Output}
+use Rattle.answer.specs.declared.output.Output.the-variants.{Written, Refused}
+
+abbrev pub Answered : Reply → List ℕ → Output → List ℕ → Type 0
+Answered reply room r left = (r ≡ outputOf reply room) × (left ≡ roomAfter reply room)
+
+pub refused : (why : Refusal) (room : List ℕ) → Answered (refuse why) room (Refused why) room
+unfolding outputOf roomAfter
+refused why room = (refl, refl)
+
+pub no-room : (t room : List ℕ) → length room < length t → Answered (text t) room (Refused NoRoom) room
+unfolding outputOf roomAfter
+no-room t room h = (simp (lt-leb _ _ h), simp (lt-leb _ _ h))
+
+pub written : (t room : List ℕ) → length t ≤ length room → Answered (text t) room (Written (length t)) (t ++ drop (length t) room)
+unfolding outputOf roomAfter
+written t room h = (simp (le-leb _ _ h), simp (le-leb _ _ h))
+
+-- a turn of a copy: its store takes the copy of i bytes to the copy of one more
+pub copied : (from room : List ℕ) (i : ℕ) → i < length from → i < length room
+    → set (take i from ++ drop i room) i (getD from i 0) ≡ take (i + 1) from ++ drop (i + 1) room
+copied from room i hf hr = rw add-one (simp zero-add at (paste-suc room 0 from i 0 (rw zero-add hr) hf))

@@ -1,0 +1,44 @@
+-- A test that passes at each number below a bound, and what it gives at one of them: a fact over a finite domain is one
+-- test that is computed, and these laws.
+--     all, at        a test of one number
+--     same, same→eq  two lists are the same
+use mathlib.Core.Path.{_≡_, refl, sym, subst, ap₂}
+use mathlib.Core.Bool.{Bool, true, false, _&&_}
+use mathlib.Core.Logic.{⊎-elim}
+use mathlib.Core.List.{List, [], _∷_}
+use Prim.Native.Nat.{ℕ, zero, suc, _<_}
+use native.Mathlib.Nat.{eq-or-lt-of-le, le-of-suc-le-suc, not-suc-le-zero}
+use lib.Dec.{T, eqb, eqb→eq}
+
+pub left : (a b : Bool) → T (a && b) → T a
+left true b t = tt
+left false b t = t
+
+pub right : (a b : Bool) → T (a && b) → T b
+right true b t = t
+right false b t = absurd t
+
+unfoldable pub all : (ℕ → Bool) → ℕ → Bool
+all f zero = true
+all f (suc n) = f n && all f n
+
+pub at : (f : ℕ → Bool) (n : ℕ) → T (all f n) → (k : ℕ) → k < n → T (f k)
+unfolding all
+at f zero t k h = absurd (not-suc-le-zero h)
+at f (suc n) t k h =
+    ⊎-elim (λ e. subst (λ (m : ℕ). T (f m)) (sym e) (left (f n) (all f n) t))
+    (λ l. at f n (right (f n) (all f n) t) k l)
+    (eq-or-lt-of-le (le-of-suc-le-suc h))
+
+unfoldable pub same : List ℕ → List ℕ → Bool
+same [] [] = true
+same [] (y ∷ ys) = false
+same (x ∷ xs) [] = false
+same (x ∷ xs) (y ∷ ys) = eqb x y && same xs ys
+
+pub same→eq : (xs ys : List ℕ) → T (same xs ys) → xs ≡ ys
+unfolding same
+same→eq [] [] t = refl
+same→eq [] (y ∷ ys) t = absurd t
+same→eq (x ∷ xs) [] t = absurd t
+same→eq (x ∷ xs) (y ∷ ys) t = ap₂ _∷_ (eqb→eq x y (left (eqb x y) (same xs ys) t)) (same→eq xs ys (right (eqb x y) (same xs ys) t))

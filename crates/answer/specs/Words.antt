@@ -1,0 +1,44 @@
+-- Texts of at most seven bytes as one number each, and how a word is stored.
+--     bytes        a quoted text as the list of its bytes
+--     low          bytes as the digits of a number, the lowest first
+--     packed       a text's word: its bytes from the lowest up, and their number in the eighth
+--     digits       the lowest n bytes of a number, the lowest first
+--     long         how many bytes a word's text has
+--     hasRoom      a buffer has eight bytes at a place
+--     placeAfter   the place behind a word's text
+--     putAt        the buffer with a word's eight bytes at a place
+use mathlib.Core.Bool.{Bool, cond}
+use mathlib.Core.List as list
+use mathlib.Core.List.{List, _++_}
+use Prim.Native.Char.{code}
+use Prim.Native.String.{String, [], _∷_}
+use Prim.Native.Nat.{ℕ, zero, suc, _+_, _*_, _/_, _%_, _^_}
+use lib.Dec.{leb}
+use lib.ListN.{length, take, drop}
+
+unfoldable pub bytes : String → List ℕ
+bytes [] = list.[]
+bytes (c ∷ more) = list._∷_ (code c) (bytes more)
+
+unfoldable pub low : List ℕ → ℕ
+low list.[] = 0
+low (list._∷_ b more) = b + 256 * low more
+
+unfoldable pub packed : List ℕ → ℕ
+packed t = low t + 256 ^ 7 * length t
+
+unfoldable pub digits : ℕ → ℕ → List ℕ
+digits zero w = list.[]
+digits (suc n) w = list._∷_ (w % 256) (digits n (w / 256))
+
+abbrev pub long : ℕ → ℕ
+long w = w / 256 ^ 7
+
+abbrev pub hasRoom : List ℕ → ℕ → Bool
+hasRoom buffer at = leb (at + 8) (length buffer)
+
+unfoldable pub placeAfter : List ℕ → ℕ → ℕ → ℕ
+placeAfter buffer at word = cond (hasRoom buffer at) (at + long word) at
+
+unfoldable pub putAt : List ℕ → ℕ → ℕ → List ℕ
+putAt buffer at word = cond (hasRoom buffer at) (take at buffer ++ digits 8 word ++ drop (at + 8) buffer) buffer

@@ -1,0 +1,4 @@
+pub mod Sets
+pub mod Intervals
+pub mod Qualities
+pub mod Masks
