@@ -1,0 +1,52 @@
+/* Hemotusap: chords from plain numbers, for C and C++.
+ *
+ * An answer at or above 0 is a success. Below 0 it is minus the number of a refusal:
+ *   -1  the set is above 4095
+ *   -5  a letter is above 6, or an accidental outside -6..6
+ *   -6  semitones are above 24, or the degree is 0 or above 14
+ *   -7  the output is shorter than the whole answer
+ * Where several apply, the first in this order is given. A refused call alters no byte; a
+ * successful one alters only the bytes that it counts. A range of length 0 may have any pointer,
+ * NULL too. An output overlaps no other range.
+ *
+ * Sets:    bit k is pitch class k, counted in semitones from the root; 0..4095.
+ * Letters: 0..6 are C D E F G A B.
+ * Accidentals: the count of sharps, -6..6; flats are negative, 0 is none.
+ */
+#ifndef HEMOTUSAP_H
+#define HEMOTUSAP_H
+
+#include <stddef.h>
+#include <stdint.h>
+
+#ifdef __cplusplus
+extern "C" {
+#endif
+
+/* The quality of a set, 0..12: major, major sixth, major seventh, dominant seventh, minor, minor
+ * sixth, minor seventh, minor major seventh, augmented, diminished, diminished seventh, power,
+ * bass. The set need not hold class 0. Refuses: -1. */
+int64_t hemotusap_quality(uint32_t set);
+
+/* Writes a note's name: its letter, then '#' or 'b' once per accidental. Answers the bytes
+ * written, 1..7; no NUL follows them. Refuses: -5, -7. */
+int64_t hemotusap_note_text(uint32_t letter, int32_t accidental, uint8_t *out, size_t room);
+
+/* The note that sounds `semitones` above the given one, octaves aside, spelled on the letter
+ * `degree` - 1 steps up (1 is the same letter, and so is 8). Its accidental is the wanted pitch
+ * class less the letter's own, brought into -6..6 by an octave; a 6 or -6 stays as it comes out.
+ * Answers 16 * letter + accidental + 6. Refuses: -5, -6. */
+int64_t hemotusap_get_note(uint32_t letter, int32_t accidental, uint32_t semitones,
+                           uint32_t degree);
+
+/* The note (letter, accidental), moved as `from` moves to `to`. Answers 16 * letter + accidental
+ * + 6. Refuses: -5, whichever of the three notes is bad. */
+int64_t hemotusap_transpose(uint32_t from_letter, int32_t from_accidental,
+                            uint32_t letter, int32_t accidental,
+                            uint32_t to_letter, int32_t to_accidental);
+
+#ifdef __cplusplus
+}
+#endif
+
+#endif

@@ -1,0 +1,13 @@
+/* Calls of the library that touch memory they were not lent: a fault ends the call alone. */
+#ifndef FAULT_H
+#define FAULT_H
+
+#include <stdbool.h>
+
+#include "call.h"
+
+/* Makes the call; false when it faulted, and then there is no answer in `got`. */
+bool called_without_fault(writer *write, const int64_t *numbers, uint8_t *out, size_t room,
+                          int64_t *got);
+
+#endif

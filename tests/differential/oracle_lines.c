@@ -1,0 +1,30 @@
+#include "oracle_lines.h"
+
+#include <stdlib.h>
+
+#include "notes.h"
+#include "run.h"
+
+static int64_t read_number(const char *line, const char *from, char end, const char **behind)
+{
+    char *stop;
+    int64_t number = strtoll(from, &stop, 10);
+    if (stop == from || *stop != end)
+        fail("the oracle's line `%s` does not hold the numbers expected", line);
+    *behind = stop + 1;
+    return number;
+}
+
+int64_t number_in(const char *line)
+{
+    const char *behind;
+    return read_number(line, line, '\0', &behind);
+}
+
+int64_t note_in(const char *line)
+{
+    const char *behind;
+    int64_t letter = read_number(line, line, ' ', &behind);
+    int64_t count = read_number(line, behind, '\0', &behind);
+    return note_number((struct note){(uint32_t)letter, (int32_t)count});
+}

@@ -1,0 +1,33 @@
+/* quality: all sets by the oracle; the numbers above are refused. */
+#include "hemotusap.h"
+#include "oracle_lines.h"
+#include "suite.h"
+
+enum { SETS = 4096 };
+
+static void every_set(struct run *run)
+{
+    for (uint32_t set = 0; set < SETS; set++) {
+        const struct call *call = CALL("quality", set);
+        const char *answer = oracle_answer(run, call);
+        if (answer != NULL)
+            expect_answer(run, call, hemotusap_quality(set), number_in(answer));
+    }
+}
+
+static void refused(struct run *run, int64_t set)
+{
+    if (set >= SETS && set <= UINT32_MAX)
+        expect_refusal(run, CALL("quality", set), hemotusap_quality((uint32_t)set), BAD_SET);
+}
+
+static void sets_above(struct run *run)
+{
+    for (int64_t set = SETS; set <= 70000; set++)
+        refused(run, set);
+    for (int bit = 12; bit <= 32; bit++)
+        for (int64_t near = -1; near <= 1; near++)
+            refused(run, (INT64_C(1) << bit) + near);
+}
+
+const struct suite quality_suite = {"quality", every_set, sets_above};
