@@ -1,14 +1,16 @@
 -- A word's bytes: how eight stores in a row stand in a buffer, and that a word gives its text back.
 --     put-nothing    where a word's bytes have no room, the place and the buffer stay
 --     put-whole      where they have, eight stores in a row are `putAt`
+--     packed-cons    a word, without its first byte and with it
 --     isShort        a text that a word can hold
 --     put-text       such a text's word, put at a place, adds the text to what stands before the place
+--     put-first      and put first, it is the text
 use mathlib.Core.Path.{_≡_, refl, sym, ap, ap₂, subst, _∙_}
 use mathlib.Core.Bool.{Bool, true, false, _&&_}
 use mathlib.Core.List.{List, [], _∷_, _++_}
 use Prim.Native.Nat.{ℕ, zero, suc, _+_, _*_, _/_, _%_, _-_, _^_, _≤_, _<_}
 use native.Mathlib.Omega.{arith}
-use native.Mathlib.Nat.{div-div-eq-div-mul, mod-eq-of-lt, not-suc-le-zero, le-of-suc-le-suc, lt-of-lt-of-le, pow-succ', pow-le-pow-right, mul-assoc}
+use native.Mathlib.Nat.{zero-add, div-div-eq-div-mul, mod-eq-of-lt, not-suc-le-zero, le-of-suc-le-suc, lt-of-lt-of-le, pow-succ', pow-le-pow-right, mul-assoc}
 use lib.Pow.{pow-add}
 use native.Mathlib.Numerals.{unary-clauses}
 use borrow.Author.Tests.{le-leb, lt-leb}
@@ -50,6 +52,10 @@ pub put-whole : (l : List ℕ) (i w : ℕ) → i + 8 ≤ length l → w < 2 ^ 64
 unfolding placeAfter putAt
 put-whole l i w h small =
     (simp (le-leb _ _ h), stores-sets l i w ∙ sets-eq (eight w) l i h ∙ simp (le-leb _ _ h, eight-digits w small))
+
+pub packed-cons : (b : ℕ) (t : List ℕ) → packed (b ∷ t) ≡ b + packed (0 ∷ t)
+unfolding packed low
+packed-cons b t = omega arith
 
 -- a text that a word can hold: at most seven bytes, each below 256
 unfoldable pub areBytes : List ℕ → Bool
@@ -120,3 +126,10 @@ module _ (t : List ℕ) (short : T (isShort t)) where
         ∙ subst (λ (j : ℕ). take (j + length t) (take i l ++ digits 8 (packed t)) ≡ take i l ++ take (length t) (digits 8 (packed t))) whole
         (take-append-add (take i l) (digits 8 (packed t)) (length t))
         ∙ ap (λ (x : List ℕ). take i l ++ x) take-packed)
+
+-- what `put` gives where a word of a text goes to the front of a buffer
+pub put-first : (t : List ℕ) → T (isShort t) → (l l′ : List ℕ) (w r : ℕ) → 8 ≤ length l → w ≡ packed t → Put l 0 w r l′ → (r ≡ length t) × (take r l′ ≡ t)
+put-first t short l l′ w r room e p =
+    let place : r ≡ length t = p .0 ∙ ap (placeAfter l 0) e ∙ place-text t short l 0 (rw zero-add room) ∙ zero-add (length t) in
+    let first : take (length t) l′ ≡ t = ap (take (length t)) (p .1 ∙ ap (putAt l 0) e) ∙ rw zero-add at (put-text t short l 0 (rw zero-add room)) in
+    (place, rw place first)

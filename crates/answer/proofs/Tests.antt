@@ -1,9 +1,11 @@
 -- A test that passes at each number below a bound, and what it gives at one of them: a fact over a finite domain is one
 -- test that is computed, and these laws.
+--     left, right, both                the parts of a joint test
+--     is-true, is-false, said, denied  from a test that passes or fails to its value, and back
 --     all, at        a test of one number
 --     same, same→eq  two lists are the same
 use mathlib.Core.Path.{_≡_, refl, sym, subst, ap₂}
-use mathlib.Core.Bool.{Bool, true, false, _&&_}
+use mathlib.Core.Bool.{Bool, true, false, not, _&&_}
 use mathlib.Core.Logic.{⊎-elim}
 use mathlib.Core.List.{List, [], _∷_}
 use Prim.Native.Nat.{ℕ, zero, suc, _<_}
@@ -17,6 +19,24 @@ left false b t = t
 pub right : (a b : Bool) → T (a && b) → T b
 right true b t = t
 right false b t = absurd t
+
+pub both : (a b : Bool) → T a → T b → T (a && b)
+both true b s t = t
+both false b s t = s
+
+pub is-true : (b : Bool) → T b → b ≡ true
+is-true true t = refl
+is-true false t = absurd t
+
+pub is-false : (b : Bool) → (T b → ⊥) → b ≡ false
+is-false true no-way = absurd (no-way tt)
+is-false false no-way = refl
+
+pub said : (b : Bool) → b ≡ true → T b
+said b e = subst T (sym e) tt
+
+pub denied : (b : Bool) → b ≡ false → T (not b)
+denied b e = subst (λ (t : Bool). T (not t)) (sym e) tt
 
 unfoldable pub all : (ℕ → Bool) → ℕ → Bool
 all f zero = true

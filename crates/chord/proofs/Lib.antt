@@ -1,2 +1,5 @@
 pub mod Rows
 pub mod FirstRule
+pub mod Counts
+pub mod Moves
+pub mod Names

@@ -1,0 +1,18 @@
+-- `chord::note::Note::to_semitone` meets its contract.
+use mathlib.Core.Path.{_≡_, ap}
+use borrow.Author.Needs.{needs}
+use Rattle.chord.specs.Notes.{semitoneAnswer}
+use Rattle.chord.specs.declared.note.SemitoneAnswer.the-variants.{Is}
+use Rattle.chord.proofs.Moves.{refused, admitted}
+use Rattle.chord.proofs.note.Note.to_semitone.Statement.{statement}
+use Rattle.chord.proofs.note.Note.to_semitone.Tie as tie
+
+pub to-semitone-spec : {M : Type 1} → statement M
+unfolding semitoneAnswer
+to-semitone-spec =
+    tie.close
+    (tie.spec
+    (λ c κs. search needs)
+    (λ c. rw (refused _ _ (c .before .is-note .ensures) (c .if1 .taken)))
+    (λ c κs. admitted _ _ (c .before .is-note .ensures) (c .if1 .left))
+    (λ c. rw (admitted _ _ (c .before .before .is-note .ensures) (c .before .if1 .left)) (ap Is (c .pitch .ensures .0))))
