@@ -1,0 +1,61 @@
+-- Numbers that a host's signed 64 bits hold.
+--     fits-pos, held-pos     a number below 2^63
+--     fits-neg               and minus it
+--     fits-less              a narrow signed number is a wide one
+--     fits-sum               a number below 2^40 and a narrow signed one, added
+--     output-fits            the count of bytes written is at most the room
+use mathlib.Core.Path.{_≡_, refl, sym, ap, subst, _∙_}
+use mathlib.Core.Bool.{Bool, true, false, cond}
+use mathlib.Core.List.{List}
+use Prim.Native.Nat.{ℕ, zero, suc, _+_, _-_, _^_, _<_, _≤_}
+use native.Mathlib.Decide.{decLt}
+use native.Mathlib.Omega.{arith}
+use lib.Dec.{leb, leb→le, T}
+use lib.IntN.{ℤ, pos, negsuc, negℤ, _+ℤ_, +ℤ-idl}
+use lib.ListN.{length}
+use lib.Signed.{mag}
+use mir.Syntax.{w32, w64}
+use mir.Val.{SFits, toZ}
+use borrow.Author.Tests.{lt-ltb, le-ltb}
+use Rattle.answer.specs.Replies.{Reply, refuse, text, fits, outputOf}
+use Rattle.answer.specs.declared.refusal.Refusal.the-variants.{NoRoom}
+use Rattle.answer.specs.declared.output.Output.{Output}
+use Rattle.answer.specs.declared.output.Output.the-variants.{Written, Refused}
+use Rattle.answer.proofs.Tests.{said}
+use Rattle.hemotusap.specs.Host.{Fits}
+
+pub fits-pos : (n : ℕ) → n < 2 ^ 63 → SFits w64 (pos n)
+fits-pos n h = record { sfits = h }
+
+pub held-pos : (n : ℕ) → n < 2 ^ 63 → toZ w64 n ≡ pos n
+held-pos n h = rw (lt-ltb n (2 ^ 63) h)
+
+pub fits-neg : (n : ℕ) → n < 2 ^ 63 → SFits w64 (negℤ (pos n))
+fits-neg zero h = record { sfits = h }
+fits-neg (suc n) h = record { sfits = omega arith }
+
+pub fits-less : (z : ℤ) → SFits w32 z → SFits w64 z
+fits-less z f = record { sfits = omega (arith, f .sfits) }
+
+mag-sum : (a : ℕ) (z : ℤ) → mag (pos a +ℤ z) ≤ a + mag z + 1
+mag-sum a (pos n) = omega arith
+mag-sum a (negsuc n) = by-order (decLt a (suc n))
+  where
+    by-order : Dec (a < suc n) → mag (pos a +ℤ negsuc n) ≤ a + n + 1
+    by-order (yes less) = rw (lt-ltb a (suc n) less) (omega arith)
+    by-order (no more) = let over : suc n ≤ a = omega arith in rw (le-ltb a (suc n) over) (omega arith)
+
+pub fits-sum : (a : ℕ) (z : ℤ) → a < 2 ^ 40 → SFits w32 z → SFits w64 (pos a +ℤ z)
+fits-sum a z h f = record { sfits = omega (arith, mag-sum a z, f .sfits) }
+
+pub output-fits : (reply : Reply) (room : List ℕ) (r : Output) → length room < 2 ^ 63 → r ≡ outputOf reply room → Fits r
+unfolding outputOf
+output-fits reply room r h e = subst Fits (sym e) (by-case reply)
+  where
+    by-room : (t : List ℕ) (b : Bool) → fits t room ≡ b → Fits (cond b (Written (length t)) (Refused NoRoom))
+    by-room t true q = let within = leb→le (length t) (length room) (said _ q) in omega arith
+    by-room t false q = tt
+
+    by-case : (reply : Reply) → Fits (outputOf reply room)
+    by-case (refuse why) = tt
+    by-case (text t) = by-room t (fits t room) refl

@@ -1,0 +1,21 @@
+-- `hemotusap::host::quality_number` meets its contract: by the answer's case.
+use mathlib.Core.Path.{_≡_, ap, sym, _∙_}
+use lib.IntN.{pos}
+use mir.Facts.{toZ-ofZ}
+use borrow.Author.Needs.{needs}
+use Rattle.hemotusap.specs.Host.{qualityNumber}
+use Rattle.hemotusap.proofs.Wide.{held-pos}
+use Rattle.hemotusap.proofs.host.quality_number.Statement.{statement}
+use Rattle.hemotusap.proofs.host.quality_number.Tie as tie
+
+pub quality-number-spec : {M : Type 1} → statement M
+quality-number-spec =
+    tie.close
+    (tie.spec
+    (λ c. search needs)
+    (λ c κs. search needs)
+    (λ c. search needs)
+    (λ c. search needs)
+    (λ c κs. search needs)
+    (λ c. held-pos _ (search needs) ∙ ap pos (c .number .ensures) ∙ ap qualityNumber (sym (c .before .before .answer .given .1)))
+    (λ c. toZ-ofZ (search needs) ∙ c .refused .ensures ∙ ap qualityNumber (sym (c .before .before .answer2 .given .1))))

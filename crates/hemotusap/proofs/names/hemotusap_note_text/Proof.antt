@@ -1,0 +1,30 @@
+-- `hemotusap::names::hemotusap_note_text` meets its contract.
+use mathlib.Core.Path.{_≡_, ap, _∙_}
+use native.Mathlib.Omega.{arith}
+use denote.Ref.{now}
+use mir.Facts.{toZ-ofZ}
+use borrow.Author.Needs.{needs}
+use Rattle.chord.specs.Notes.{noteOf}
+use Rattle.hemotusap.specs.Host.{outputNumber}
+use Rattle.hemotusap.proofs.Wide.{output-fits}
+use Rattle.hemotusap.proofs.names.hemotusap_note_text.Statement.{statement}
+use Rattle.hemotusap.proofs.names.hemotusap_note_text.Tie as tie
+
+note : (c : tie.After-new) → c .new .result ≡ noteOf (c .before .before .args .letter) (c .before .before .args .accidental)
+note c = c .new .ensures ∙ ap (noteOf (c .before .before .args .letter)) (toZ-ofZ (c .before .before .fits .accidental))
+
+returns : tie.Need-returns
+returns c =
+    let t = c .before .before .before in
+    let made = rw (note (t .before .before)) at (t .text .ensures) in
+    (toZ-ofZ (search needs) ∙ c .written .ensures ∙ ap outputNumber (made .0), made .1)
+
+pub hemotusap-note-text-spec : {M : Type 1} → statement M
+hemotusap-note-text-spec =
+    tie.close
+    (tie.spec
+    (λ c κs. search needs)
+    (λ c κs. search needs)
+    (λ c κs. output-fits _ (now (c .before .before .before .before .before .before .args .out)) _ (omega arith) (c .before .before .text .ensures .0))
+    (λ c. search needs)
+    returns)

@@ -1,0 +1,44 @@
+-- What a host gets back: paper 01, "Ported, added, left behind" ("A success comes back there as the count of bytes written, the
+-- quality number, or for a note 16 × letter + count + 6 (no accidental counts 0); a refusal comes back as minus its number").
+--     minus                minus a refusal's number, numbered as `number` says
+--     refusalNumber        a refusal, numbered as paper 01 has it
+--     outputNumber, qualityNumber, noteNumber, noteAnswerNumber     the answers
+--     Fits                 an answer's count of bytes is one that a host's 64 bits hold
+use Prim.Native.Nat.{ℕ, _+_, _*_, _^_, _<_}
+use lib.IntN.{ℤ, pos, negℤ, _+ℤ_}
+use Rattle.answer.specs.Refusals.{numberOf}
+use Rattle.answer.specs.declared.refusal.Refusal.{Refusal}
+use Rattle.answer.specs.declared.output.Output.{Output}
+use Rattle.answer.specs.declared.output.Output.the-variants as Output
+use Rattle.chord.specs.Notes.{countOf}
+use Rattle.chord.specs.Qualities as Qualities
+use Rattle.chord.specs.declared.note.Note.{Note}
+use Rattle.chord.specs.declared.note.NoteAnswer.{NoteAnswer}
+use Rattle.chord.specs.declared.note.NoteAnswer.the-variants as Moved
+use Rattle.chord.specs.declared.quality.QualityAnswer.{QualityAnswer}
+use Rattle.chord.specs.declared.quality.QualityAnswer.the-variants as Quality
+
+abbrev pub minus : (Refusal → ℕ) → Refusal → ℤ
+minus number why = negℤ (pos (number why))
+
+abbrev pub refusalNumber : Refusal → ℤ
+refusalNumber why = minus numberOf why
+
+abbrev pub outputNumber : Output → ℤ
+outputNumber (Output.Written n) = pos n
+outputNumber (Output.Refused why) = refusalNumber why
+
+abbrev pub qualityNumber : QualityAnswer → ℤ
+qualityNumber (Quality.Is q) = pos (Qualities.qualityNumber q)
+qualityNumber (Quality.Refused why) = refusalNumber why
+
+abbrev pub noteNumber : Note → ℤ
+noteNumber n = pos (16 * n .letter + 6) +ℤ countOf (n .accidental)
+
+abbrev pub noteAnswerNumber : NoteAnswer → ℤ
+noteAnswerNumber (Moved.Is n) = noteNumber n
+noteAnswerNumber (Moved.Refused why) = refusalNumber why
+
+abbrev pub Fits : Output → Type 0
+Fits (Output.Written n) = n < 2 ^ 63
+Fits (Output.Refused why) = Unit {0}

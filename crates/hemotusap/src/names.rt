@@ -1,0 +1,25 @@
+// Qualities and texts for the host.
+use crate::host::quality_number;
+use crate::host::written;
+use chord::note::Note;
+use chord::quality::quality;
+ghost use mathlib.Core.Path.{_≡_};
+ghost use Rattle.answer.specs.Replies.{outputOf, roomAfter};
+ghost use Rattle.chord.specs.Notes.{noteOf};
+ghost use Rattle.chord.specs.NoteText.{signs, noteReply};
+ghost use Rattle.chord.specs.Qualities.{qualityAnswer};
+ghost use Rattle.hemotusap.specs.Host.{outputNumber, qualityNumber};
+
+#[no_mangle]
+pub extern "C" fn hemotusap_quality(set: u32) -> i64
+    ensures { λ r. ⌜ r ≡ qualityNumber (qualityAnswer set) ⌝ }
+{
+    quality_number(quality(set))
+}
+
+#[no_mangle]
+pub extern "C" fn hemotusap_note_text(letter: u32, accidental: i32, out: &mut [u8]) -> i64
+    ensures { λ r. ⌜ (r ≡ outputNumber (outputOf (noteReply signs (noteOf letter accidental)) (now (out .entry)))) × (now (out .exit) ≡ roomAfter (noteReply signs (noteOf letter accidental)) (now (out .entry))) ⌝ }
+{
+    written(Note::new(letter, accidental).text(out))
+}
