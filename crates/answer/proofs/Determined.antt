@@ -1,8 +1,12 @@
 -- Determinacy: two answers that a contract allows to one call are the same answer, and leave the same bytes.
 --     determined     the law: what two answers are both said to equal makes them equal
 --     both           the same of an answer with the bytes that it leaves
---     F-determined   the contract of `F`, as its proof and its callers read it (`Post`), at two answers to the same arguments
+--     Decides        a contract, as its function's proof and its callers read it (`Post`), allows one answer to each call
+--     DecidesWith    and one content of the range that it was lent
+--     F-decides      the contract of `F` does
 use mathlib.Core.Path.{_≡_, sym, _∙_}
+use mathlib.Core.List.{List}
+use Prim.Native.Nat.{ℕ}
 use denote.Ref.{now}
 use Rattle.answer.proofs.refusal.Refusal.number.Reads as number
 use Rattle.answer.proofs.output.give.Reads as give
@@ -14,11 +18,20 @@ determined p q = p ∙ sym q
 pub both {ℓ} : {A B : Type ℓ} {x y told : A} {l m left : B} → (x ≡ told) × (l ≡ left) → (y ≡ told) × (m ≡ left) → (x ≡ y) × (l ≡ m)
 both p q = (determined (p .0) (q .0), determined (p .1) (q .1))
 
-pub number-determined : (κs : _) (a : _) (r r′ : _) (s s′ : _) → number.Post κs a r s → number.Post κs a r′ s′ → r ≡ r′
-number-determined κs a r r′ s s′ p q = determined p q
+-- over the lifetimes of a call, its arguments, its answer and what it leaves
+abbrev pub Decides {ℓ} : {K : Type ℓ} {A R S : K → Type 0} → ((κs : K) → A κs → R κs → S κs → Type 0) → Type ℓ
+Decides {K} {A} {R} {S} Post = (κs : K) (a : A κs) (r r′ : R κs) (s s′ : S κs) → Post κs a r s → Post κs a r′ s′ → r ≡ r′
 
-pub give-determined : (κs : _) (a : _) (r r′ : _) (s s′ : _) → give.Post κs a r s → give.Post κs a r′ s′ → (r ≡ r′) × (now (s .1 .0) ≡ now (s′ .1 .0))
-give-determined κs a r r′ s s′ p q = both p q
+-- and what it leaves, read as the bytes of a range that it was lent
+abbrev pub DecidesWith {ℓ} : {K : Type ℓ} {A R S : K → Type 0} → ((κs : K) → A κs → R κs → S κs → Type 0) → ((κs : K) → S κs → List ℕ) → Type ℓ
+DecidesWith {K} {A} {R} {S} Post left =
+    (κs : K) (a : A κs) (r r′ : R κs) (s s′ : S κs) → Post κs a r s → Post κs a r′ s′ → (r ≡ r′) × (left κs s ≡ left κs s′)
 
-pub put-determined : (κs : _) (a : _) (r r′ : _) (s s′ : _) → put.Post κs a r s → put.Post κs a r′ s′ → (r ≡ r′) × (now (s .0) ≡ now (s′ .0))
-put-determined κs a r r′ s s′ p q = both p q
+pub number-decides : Decides number.Post
+number-decides κs a r r′ s s′ = determined
+
+pub give-decides : DecidesWith give.Post (λ κs s. now (s .1 .0))
+give-decides κs a r r′ s s′ = both
+
+pub put-decides : DecidesWith put.Post (λ κs s. now (s .0))
+put-decides κs a r r′ s s′ = both

@@ -3,3 +3,4 @@ pub mod FirstRule
 pub mod Counts
 pub mod Moves
 pub mod Names
+pub mod Determined
