@@ -12,6 +12,8 @@
  * Sets:    bit k is pitch class k, counted in semitones from the root; 0..4095.
  * Letters: 0..6 are C D E F G A B.
  * Accidentals: the count of sharps, -6..6; flats are negative, 0 is none.
+ *
+ * No call allocates, keeps state or calls back: any thread may make any call at any time.
  */
 #ifndef HEMOTUSAP_H
 #define HEMOTUSAP_H

@@ -1,5 +1,6 @@
--- Laws of the table of intervals.
+-- Laws of the tables of intervals and of qualities.
 --     told          the row of an interval tells of it
+--     kept          the row of a quality tells of it
 --     past          a number past the last interval names none
 use mathlib.Core.Path.{_≡_, refl, sym, ap}
 use mathlib.Core.List.{List, [], _∷_}
@@ -10,6 +11,11 @@ use lib.ListN.{length}
 use Rattle.answer.specs.Words.{packed}
 use Rattle.answer.proofs.Arms.{Nones, nones}
 use Rattle.chord.specs.Intervals.{Tells, intervals, nth, numbered, numberOf, semitonesOf, degreeOf, toDegreeOf, notationOf}
+use Rattle.chord.specs.Qualities.{qualityNumber}
+use Rattle.chord.specs.Masks as Masks
+use Rattle.chord.specs.Masks.{ownBits, alterationBits, extensionBits, stackBits}
+use Rattle.chord.specs.declared.quality.About as quality
+use Rattle.chord.specs.declared.quality.ChordQuality.{ChordQuality}
 use Rattle.chord.specs.declared.interval.Interval.{Interval}
 use Rattle.chord.specs.declared.interval.About.{About}
 use Rattle.chord.specs.declared.interval.Numbered.the-variants.{Nothing}
@@ -37,3 +43,17 @@ nth-past (i ∷ more) (suc n) h = nth-past more n (le-of-suc-le-suc h)
 pub past : (n : ℕ) → Nones n 23 → numbered n ≡ Nothing
 unfolding numbered intervals
 past n none = let no-less : ¬ (n < 23) = nones n 23 none in nth-past intervals n (omega arith)
+
+-- a quality's row
+abbrev rowKept : ChordQuality → quality.About
+rowKept q = record { 0 = qualityNumber q; 1 = ownBits q; 2 = alterationBits q; 3 = extensionBits q; 4 = stackBits q }
+
+pub kept : (q k : ChordQuality) → q ≡ k → Masks.Tells q (rowKept k)
+kept q k e =
+    record {
+      number = ap qualityNumber (sym e);
+      own = ap ownBits (sym e);
+      alterations = ap alterationBits (sym e);
+      extensions = ap extensionBits (sym e);
+      stack = ap stackBits (sym e);
+    }

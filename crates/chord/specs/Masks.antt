@@ -2,6 +2,8 @@
 --     maskOf       of a quality: the classes that make it, the intervals that it shows as alterations, those that it shows as
 --                  extensions, and the degrees of which its extensions are stacked
 --     ownBits, alterationBits, extensionBits, stackBits     each of these as a number, a bit for each member
+--     Tells        a row of the code's table has that, with the quality's number
+use mathlib.Core.Path.{_≡_}
 use mathlib.Core.List.{List, [], _∷_, map}
 use Prim.Native.Nat.{ℕ}
 use Rattle.chord.specs.Sets.{bits}
@@ -10,6 +12,8 @@ use Rattle.chord.specs.declared.interval.Interval.{Interval}
 use Rattle.chord.specs.declared.interval.Interval.the-variants.{DiminishedFifth, AugmentedFifth, MinorSixth, MajorSixth, MajorSeventh, FlatNinth, Ninth, SharpNinth, Eleventh, SharpEleventh, FlatThirteenth, Thirteenth}
 use Rattle.chord.specs.declared.interval.IntDegree.{IntDegree}
 use Rattle.chord.specs.declared.interval.IntDegree.the-variants as Degree
+use Rattle.chord.specs.Qualities.{qualityNumber}
+use Rattle.chord.specs.declared.quality.About.{About}
 use Rattle.chord.specs.declared.quality.ChordQuality.{ChordQuality}
 use Rattle.chord.specs.declared.quality.ChordQuality.the-variants.{Maj, Maj6, Maj7, Dominant7, Mi, Mi6, Mi7, MiMaj7, Augmented, Diminished, Diminished7, Power, Bass}
 
@@ -78,3 +82,11 @@ extensionBits q = bits (map numberOf (maskOf q .extensions))
 
 abbrev pub stackBits : ChordQuality → ℕ
 stackBits q = bits (map numericOf (maskOf q .stack))
+
+-- a row of the code's table
+pub record Tells (q : ChordQuality) (row : About) : Type 0 where
+  pub number : row .0 ≡ qualityNumber q
+  pub own : row .1 ≡ ownBits q
+  pub alterations : row .2 ≡ alterationBits q
+  pub extensions : row .3 ≡ extensionBits q
+  pub stack : row .4 ≡ stackBits q

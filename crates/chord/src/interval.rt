@@ -89,6 +89,9 @@ pub const FLAT_THIRTEENTH: u32 = 1 << 21;
 
 pub const THIRTEENTH: u32 = 1 << 22;
 
+// Short, so that a row of the table is a line.
+type D = IntDegree;
+
 // What the table says of an interval: its number, its semitones above the root, its degree in a chord (`From<Interval>`: b5
 // is a fourth), the degree of its natural form (`to_degree`: b5 is a fifth), and how a chord writes it, as a word.
 struct About(u32, u32, IntDegree, IntDegree, u64);
@@ -136,155 +139,29 @@ impl Interval {
         ensures { λ r. ⌜ Tells self r ⌝ }
     {
         match self {
-            Interval::Unison => About(0, 0, IntDegree::Root, IntDegree::Root, 0x0100000000000031), // 1
-            Interval::MinorSecond => About(
-                1,
-                1,
-                IntDegree::Second,
-                IntDegree::Second,
-                0x0200000000003262,
-            ), // b2
-            Interval::MajorSecond => About(
-                2,
-                2,
-                IntDegree::Second,
-                IntDegree::Second,
-                0x0100000000000032,
-            ), // 2
-            Interval::MinorThird => About(
-                3,
-                3,
-                IntDegree::Third,
-                IntDegree::Third,
-                0x0200000000003362,
-            ), // b3
-            Interval::MajorThird => About(
-                4,
-                4,
-                IntDegree::Third,
-                IntDegree::Third,
-                0x0100000000000033,
-            ), // 3
-            Interval::PerfectFourth => About(
-                5,
-                5,
-                IntDegree::Fourth,
-                IntDegree::Fourth,
-                0x0100000000000034,
-            ), // 4
-            Interval::AugmentedFourth => About(
-                6,
-                6,
-                IntDegree::Fourth,
-                IntDegree::Fourth,
-                0x0200000000003423,
-            ), // #4
-            Interval::DiminishedFifth => About(
-                7,
-                6,
-                IntDegree::Fourth,
-                IntDegree::Fifth,
-                0x0200000000003562,
-            ), // b5
-            Interval::PerfectFifth => About(
-                8,
-                7,
-                IntDegree::Fifth,
-                IntDegree::Fifth,
-                0x0100000000000035,
-            ), // 5
-            Interval::AugmentedFifth => About(
-                9,
-                8,
-                IntDegree::Fifth,
-                IntDegree::Fifth,
-                0x0200000000003523,
-            ), // #5
-            Interval::MinorSixth => About(
-                10,
-                8,
-                IntDegree::Sixth,
-                IntDegree::Sixth,
-                0x0200000000003662,
-            ), // b6
-            Interval::MajorSixth => About(
-                11,
-                9,
-                IntDegree::Sixth,
-                IntDegree::Sixth,
-                0x0100000000000036,
-            ), // 6
-            Interval::DiminishedSeventh => About(
-                12,
-                9,
-                IntDegree::Seventh,
-                IntDegree::Seventh,
-                0x0300000000376262,
-            ), // bb7
-            Interval::MinorSeventh => About(
-                13,
-                10,
-                IntDegree::Seventh,
-                IntDegree::Seventh,
-                0x0100000000000037,
-            ), // 7
-            Interval::MajorSeventh => About(
-                14,
-                11,
-                IntDegree::Seventh,
-                IntDegree::Seventh,
-                0x030000000037614d,
-            ), // Ma7
-            Interval::Octave => About(15, 12, IntDegree::Root, IntDegree::Root, 0x0100000000000038), // 8
-            Interval::FlatNinth => About(
-                16,
-                13,
-                IntDegree::Ninth,
-                IntDegree::Ninth,
-                0x0200000000003962,
-            ), // b9
-            Interval::Ninth => About(
-                17,
-                14,
-                IntDegree::Ninth,
-                IntDegree::Ninth,
-                0x0100000000000039,
-            ), // 9
-            Interval::SharpNinth => About(
-                18,
-                15,
-                IntDegree::Ninth,
-                IntDegree::Ninth,
-                0x0200000000003923,
-            ), // #9
-            Interval::Eleventh => About(
-                19,
-                17,
-                IntDegree::Eleventh,
-                IntDegree::Eleventh,
-                0x0200000000003131,
-            ), // 11
-            Interval::SharpEleventh => About(
-                20,
-                18,
-                IntDegree::Eleventh,
-                IntDegree::Eleventh,
-                0x0300000000313123,
-            ), // #11
-            Interval::FlatThirteenth => About(
-                21,
-                20,
-                IntDegree::Thirteenth,
-                IntDegree::Thirteenth,
-                0x0300000000333162,
-            ), // b13
-            Interval::Thirteenth => About(
-                22,
-                21,
-                IntDegree::Thirteenth,
-                IntDegree::Thirteenth,
-                0x0200000000003331,
-            ), // 13
+            Self::Unison => About(0, 0, D::Root, D::Root, 0x100000000000031), // 1
+            Self::MinorSecond => About(1, 1, D::Second, D::Second, 0x200000000003262), // b2
+            Self::MajorSecond => About(2, 2, D::Second, D::Second, 0x100000000000032), // 2
+            Self::MinorThird => About(3, 3, D::Third, D::Third, 0x200000000003362), // b3
+            Self::MajorThird => About(4, 4, D::Third, D::Third, 0x100000000000033), // 3
+            Self::PerfectFourth => About(5, 5, D::Fourth, D::Fourth, 0x100000000000034), // 4
+            Self::AugmentedFourth => About(6, 6, D::Fourth, D::Fourth, 0x200000000003423), // #4
+            Self::DiminishedFifth => About(7, 6, D::Fourth, D::Fifth, 0x200000000003562), // b5
+            Self::PerfectFifth => About(8, 7, D::Fifth, D::Fifth, 0x100000000000035), // 5
+            Self::AugmentedFifth => About(9, 8, D::Fifth, D::Fifth, 0x200000000003523), // #5
+            Self::MinorSixth => About(10, 8, D::Sixth, D::Sixth, 0x200000000003662), // b6
+            Self::MajorSixth => About(11, 9, D::Sixth, D::Sixth, 0x100000000000036), // 6
+            Self::DiminishedSeventh => About(12, 9, D::Seventh, D::Seventh, 0x300000000376262), // bb7
+            Self::MinorSeventh => About(13, 10, D::Seventh, D::Seventh, 0x100000000000037), // 7
+            Self::MajorSeventh => About(14, 11, D::Seventh, D::Seventh, 0x30000000037614d), // Ma7
+            Self::Octave => About(15, 12, D::Root, D::Root, 0x100000000000038), // 8
+            Self::FlatNinth => About(16, 13, D::Ninth, D::Ninth, 0x200000000003962), // b9
+            Self::Ninth => About(17, 14, D::Ninth, D::Ninth, 0x100000000000039), // 9
+            Self::SharpNinth => About(18, 15, D::Ninth, D::Ninth, 0x200000000003923), // #9
+            Self::Eleventh => About(19, 17, D::Eleventh, D::Eleventh, 0x200000000003131), // 11
+            Self::SharpEleventh => About(20, 18, D::Eleventh, D::Eleventh, 0x300000000313123), // #11
+            Self::FlatThirteenth => About(21, 20, D::Thirteenth, D::Thirteenth, 0x300000000333162), // b13
+            Self::Thirteenth => About(22, 21, D::Thirteenth, D::Thirteenth, 0x200000000003331), // 13
         }
     }
 

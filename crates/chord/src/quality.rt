@@ -16,7 +16,7 @@ use answer::refusal::Refusal;
 ghost use mathlib.Core.Path.{_≡_};
 ghost use Prim.Native.Nat.{_<_};
 ghost use Rattle.chord.specs.Qualities.{qualityOf, qualityNumber, qualityAnswer};
-ghost use Rattle.chord.specs.Masks.{ownBits, alterationBits, extensionBits, stackBits};
+ghost use Rattle.chord.specs.Masks.{Tells, ownBits, alterationBits, extensionBits, stackBits};
 
 pub enum ChordQuality {
     Maj,
@@ -74,7 +74,7 @@ const AUG_SET_EXCLUDES: u32 = 1 << 9 | 1 << 10 | 1 << 11;
 const DIM_SET_EXCLUDES: u32 = 1 << 4 | 1 << 7 | 1 << 10;
 
 // Sets of intervals that qualities show as alterations and as extensions.
-const USUAL_ALTERATIONS: u32 = DIMINISHED_FIFTH
+const ALTERATIONS: u32 = DIMINISHED_FIFTH
     | AUGMENTED_FIFTH
     | MINOR_SIXTH
     | FLAT_NINTH
@@ -163,108 +163,67 @@ fn first_rule(set: u32) -> ChordQuality
     ChordQuality::Maj
 }
 
+// What the table says of a quality: its number, the classes that make it, the intervals that it shows as alterations and as
+// extensions, and the degrees of which its extensions are stacked.
+struct About(u32, u32, u32, u32, u32);
+
 impl ChordQuality {
+    fn about(self) -> About
+        ensures { λ r. ⌜ Tells self r ⌝ }
+    {
+        match self {
+            Self::Maj => About(0, MAJ_SET, ALTERATIONS, M6, STACK),
+            Self::Maj6 => About(1, MAJ6_SET, ALTERATIONS, M7, STACK_11),
+            Self::Maj7 => About(2, MAJ7_SET, ALTERATIONS, M6, STACK),
+            Self::Dominant7 => About(3, DOM7_SET, ALTERATIONS, M6, STACK),
+            Self::Mi => About(4, MIN_SET, ALTERATIONS, M11_M6, STACK_11),
+            Self::Mi6 => About(5, MIN6_SET, ALTERATIONS, M7_11, STACK_11),
+            Self::Mi7 => About(6, MIN7_SET, ALTERATIONS, M11_M6, STACK_11),
+            Self::MiMaj7 => About(7, MIMA7_SET, ALTERATIONS, M11_M6, STACK_11),
+            Self::Augmented => About(8, AUG_SET, AUG_ALTERATIONS, M6, STACK),
+            Self::Diminished => About(9, DIM_SET, DIM_ALTERATIONS, M7_11, STACK_11),
+            Self::Diminished7 => About(10, DIM7_SET, DIM_ALTERATIONS, M7_11, STACK_11),
+            Self::Power => About(11, POW_SET, EMPTY_SET, EMPTY_SET, EMPTY_SET),
+            Self::Bass => About(12, EMPTY_SET, EMPTY_SET, EMPTY_SET, EMPTY_SET),
+        }
+    }
+
     pub fn number(self) -> u32
         ensures { λ r. ⌜ r ≡ qualityNumber self ⌝ }
     {
-        match self {
-            ChordQuality::Maj => 0,
-            ChordQuality::Maj6 => 1,
-            ChordQuality::Maj7 => 2,
-            ChordQuality::Dominant7 => 3,
-            ChordQuality::Mi => 4,
-            ChordQuality::Mi6 => 5,
-            ChordQuality::Mi7 => 6,
-            ChordQuality::MiMaj7 => 7,
-            ChordQuality::Augmented => 8,
-            ChordQuality::Diminished => 9,
-            ChordQuality::Diminished7 => 10,
-            ChordQuality::Power => 11,
-            ChordQuality::Bass => 12,
-        }
+        let about = self.about();
+        about.0
     }
 
     // The classes that make the quality.
     pub fn self_mask(self) -> u32
         ensures { λ r. ⌜ r ≡ ownBits self ⌝ }
     {
-        match self {
-            ChordQuality::Maj => MAJ_SET,
-            ChordQuality::Maj6 => MAJ6_SET,
-            ChordQuality::Maj7 => MAJ7_SET,
-            ChordQuality::Dominant7 => DOM7_SET,
-            ChordQuality::Mi => MIN_SET,
-            ChordQuality::Mi6 => MIN6_SET,
-            ChordQuality::Mi7 => MIN7_SET,
-            ChordQuality::MiMaj7 => MIMA7_SET,
-            ChordQuality::Augmented => AUG_SET,
-            ChordQuality::Diminished => DIM_SET,
-            ChordQuality::Diminished7 => DIM7_SET,
-            ChordQuality::Power => POW_SET,
-            ChordQuality::Bass => EMPTY_SET,
-        }
+        let about = self.about();
+        about.1
     }
 
     // The intervals that the quality shows as alterations.
     pub fn alteration_mask(self) -> u32
         ensures { λ r. ⌜ r ≡ alterationBits self ⌝ }
     {
-        match self {
-            ChordQuality::Maj => USUAL_ALTERATIONS,
-            ChordQuality::Maj6 => USUAL_ALTERATIONS,
-            ChordQuality::Maj7 => USUAL_ALTERATIONS,
-            ChordQuality::Dominant7 => USUAL_ALTERATIONS,
-            ChordQuality::Mi => USUAL_ALTERATIONS,
-            ChordQuality::Mi6 => USUAL_ALTERATIONS,
-            ChordQuality::Mi7 => USUAL_ALTERATIONS,
-            ChordQuality::MiMaj7 => USUAL_ALTERATIONS,
-            ChordQuality::Augmented => AUG_ALTERATIONS,
-            ChordQuality::Diminished => DIM_ALTERATIONS,
-            ChordQuality::Diminished7 => DIM_ALTERATIONS,
-            ChordQuality::Power => EMPTY_SET,
-            ChordQuality::Bass => EMPTY_SET,
-        }
+        let about = self.about();
+        about.2
     }
 
     // The intervals that it shows as extensions.
     pub fn extension_mask(self) -> u32
         ensures { λ r. ⌜ r ≡ extensionBits self ⌝ }
     {
-        match self {
-            ChordQuality::Maj => M6,
-            ChordQuality::Maj6 => M7,
-            ChordQuality::Maj7 => M6,
-            ChordQuality::Dominant7 => M6,
-            ChordQuality::Mi => M11_M6,
-            ChordQuality::Mi6 => M7_11,
-            ChordQuality::Mi7 => M11_M6,
-            ChordQuality::MiMaj7 => M11_M6,
-            ChordQuality::Augmented => M6,
-            ChordQuality::Diminished => M7_11,
-            ChordQuality::Diminished7 => M7_11,
-            ChordQuality::Power => EMPTY_SET,
-            ChordQuality::Bass => EMPTY_SET,
-        }
+        let about = self.about();
+        about.3
     }
 
     // The degrees of which its extensions are stacked.
     pub fn extension_stack(self) -> u32
         ensures { λ r. ⌜ r ≡ stackBits self ⌝ }
     {
-        match self {
-            ChordQuality::Maj => STACK,
-            ChordQuality::Maj6 => STACK_11,
-            ChordQuality::Maj7 => STACK,
-            ChordQuality::Dominant7 => STACK,
-            ChordQuality::Mi => STACK_11,
-            ChordQuality::Mi6 => STACK_11,
-            ChordQuality::Mi7 => STACK_11,
-            ChordQuality::MiMaj7 => STACK_11,
-            ChordQuality::Augmented => STACK,
-            ChordQuality::Diminished => STACK_11,
-            ChordQuality::Diminished7 => STACK_11,
-            ChordQuality::Power => EMPTY_SET,
-            ChordQuality::Bass => EMPTY_SET,
-        }
+        let about = self.about();
+        about.4
     }
 }
