@@ -1,7 +1,7 @@
 /* Hemotusap: chords from plain numbers, for C and C++.
  *
  * An answer at or above 0 is a success. Below 0 it is minus the number of a refusal:
- *   -1  the set is above 4095
+ *   -1  the set is above 4095, or, except for the quality, without class 0
  *   -5  a letter is above 6, or an accidental outside -6..6
  *   -6  semitones are above 24, or the degree is 0 or above 14
  *   -7  the output is shorter than the whole answer
@@ -29,6 +29,21 @@ extern "C" {
  * sixth, minor seventh, minor major seventh, augmented, diminished, diminished seventh, power,
  * bass. The set need not hold class 0. Refuses: -1. */
 int64_t hemotusap_quality(uint32_t set);
+
+/* Writes what stands behind the root's name for a set that holds class 0: quality with modifier,
+ * "sus", then alterations, adds and omits in parentheses, as in "7sus(b9)". Answers the bytes
+ * written, at most 64; no NUL follows them. Refuses: -1, -7. */
+int64_t hemotusap_suffix(uint32_t set, uint8_t *out, size_t room);
+
+/* Writes the candidates of a list of MIDI codes; any byte is one, and its class is the code mod
+ * 12. For each code whose class has not occurred before, in the list's order: the name of its
+ * class (C Db D Eb E F Gb G Ab A Bb B), the suffix of the list seen from it, then '/' and the
+ * name of the first code unless it is the first, then LF. Answers the bytes written, at most 840
+ * and 0 for an empty list; no NUL follows them. Refuses: -7. */
+int64_t hemotusap_candidates(const uint8_t *codes, size_t count, uint8_t *out, size_t room);
+
+/* The number of candidates of a list, which is that of its classes: 0..12. Never refuses. */
+int64_t hemotusap_candidate_count(const uint8_t *codes, size_t count);
 
 /* Writes a note's name: its letter, then '#' or 'b' once per accidental. Answers the bytes
  * written, 1..7; no NUL follows them. Refuses: -5, -7. */

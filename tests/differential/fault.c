@@ -30,8 +30,7 @@ static void watch_faults(void)
         fail("faults cannot be watched");
 }
 
-bool called_without_fault(writer *write, const int64_t *numbers, uint8_t *out, size_t room,
-                          int64_t *got)
+bool called_without_fault(callee *callee, const struct call *call, uint8_t *out, int64_t *got)
 {
     watch_faults();
     if (sigsetjmp(before_call, 0) != 0) {
@@ -39,7 +38,7 @@ bool called_without_fault(writer *write, const int64_t *numbers, uint8_t *out, s
         return false;
     }
     in_call = 1;
-    *got = write(numbers, out, room);
+    *got = callee(call, out);
     in_call = 0;
     return true;
 }

@@ -7,7 +7,6 @@
 #include "call.h"
 
 /* Makes the call; false when it faulted, and then there is no answer in `got`. */
-bool called_without_fault(writer *write, const int64_t *numbers, uint8_t *out, size_t room,
-                          int64_t *got);
+bool called_without_fault(callee *callee, const struct call *call, uint8_t *out, int64_t *got);
 
 #endif

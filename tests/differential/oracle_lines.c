@@ -1,6 +1,7 @@
 #include "oracle_lines.h"
 
 #include <stdlib.h>
+#include <string.h>
 
 #include "notes.h"
 #include "run.h"
@@ -27,4 +28,21 @@ int64_t note_in(const char *line)
     int64_t letter = read_number(line, line, ' ', &behind);
     int64_t count = read_number(line, behind, '\0', &behind);
     return note_number((struct note){(uint32_t)letter, (int32_t)count});
+}
+
+struct lines lines_in(const char *line)
+{
+    struct lines lines = {.length = strlen(line)};
+    if (lines.length >= sizeof lines.text)
+        fail("the oracle's line `%s` is longer than candidates can be", line);
+    if (lines.length == 0)
+        return lines;
+    memcpy(lines.text, line, lines.length);
+    lines.text[lines.length++] = '\t';
+    for (size_t at = 0; at < lines.length; at++)
+        if (lines.text[at] == '\t') {
+            lines.text[at] = '\n';
+            lines.count++;
+        }
+    return lines;
 }

@@ -2,11 +2,22 @@
 #ifndef ORACLE_LINES_H
 #define ORACLE_LINES_H
 
+#include <stddef.h>
 #include <stdint.h>
 
 int64_t number_in(const char *line);
 
 /* `LETTER COUNT` as the library's number for that note. */
 int64_t note_in(const char *line);
+
+/* Candidates as the library writes them, each ended by LF. */
+struct lines {
+    int64_t count;
+    size_t length;
+    uint8_t text[1024];
+};
+
+/* Candidates with a tab between; an empty line holds none. */
+struct lines lines_in(const char *line);
 
 #endif

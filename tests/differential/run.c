@@ -35,8 +35,7 @@ static const char *next_line(struct run *run)
 const char *oracle_answer(struct run *run, const struct call *call)
 {
     if (run->mode == REQUESTING) {
-        call_print(call, stdout);
-        putchar('\n');
+        call_request(call, stdout);
         return NULL;
     }
     const char *line = next_line(run);
@@ -49,7 +48,7 @@ void mismatch(struct run *run, const struct call *call, const char *format, ...)
 {
     va_list words;
     va_start(words, format);
-    call_print(call, stderr);
+    call_tell(call, stderr);
     fputs(": ", stderr);
     vfprintf(stderr, format, words);
     fputc('\n', stderr);

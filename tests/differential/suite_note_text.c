@@ -8,9 +8,10 @@
 
 enum { LONGEST = 7 }; /* a letter and six accidentals */
 
-static int64_t write_note(const int64_t *numbers, uint8_t *out, size_t room)
+static int64_t write_note(const struct call *call, uint8_t *out)
 {
-    return hemotusap_note_text((uint32_t)numbers[0], (int32_t)numbers[1], out, room);
+    return hemotusap_note_text((uint32_t)call->numbers[0], (int32_t)call->numbers[1], out,
+                               (size_t)call->room);
 }
 
 /* Paper 01, "Notes": the letter, then # or b once per count. */

@@ -4,13 +4,16 @@
 #include "length.h"
 #include "suite.h"
 
-extern const struct suite quality_suite, get_note_suite, transpose_suite, note_text_suite;
+extern const struct suite quality_suite, get_note_suite, transpose_suite, note_text_suite,
+    suffix_suite, candidates_suite;
 
 static const struct suite *const suites[] = {
     &quality_suite,
     &get_note_suite,
     &transpose_suite,
     &note_text_suite,
+    &suffix_suite,
+    &candidates_suite,
 };
 
 const struct suite *suite_named(const char *name)

@@ -1,15 +1,26 @@
-/* Calls that write into a lent range: tried in every room that matters, in every place. */
+/* Calls with lent ranges: tried in every place, and those that write in the rooms that matter. */
 #ifndef WRITTEN_H
 #define WRITTEN_H
 
 #include "run.h"
 
-/* Rooms 0 to one more than the answer's length: too small a room is refusal 7. */
-void expect_written(struct run *run, const struct call *call, writer *write, const uint8_t *want,
-                    size_t length);
+/* This room: too small a one is refusal 7. */
+void expect_written_in(struct run *run, const struct call *call, callee *callee,
+                       const uint8_t *want, size_t length, size_t room);
+
+/* Rooms 0 to one more than the answer's length. */
+void expect_written(struct run *run, const struct call *call, callee *callee,
+                    const uint8_t *want, size_t length);
+
+/* This room: refused. */
+void expect_unwritten_in(struct run *run, const struct call *call, callee *callee,
+                         enum refusal want, size_t room);
 
 /* Rooms 0 to `most`: refused in each. */
-void expect_unwritten(struct run *run, const struct call *call, writer *write, enum refusal want,
-                      size_t most);
+void expect_unwritten(struct run *run, const struct call *call, callee *callee,
+                      enum refusal want, size_t most);
+
+/* A call that reads its inputs and has no output. */
+void expect_read(struct run *run, const struct call *call, callee *callee, int64_t want);
 
 #endif

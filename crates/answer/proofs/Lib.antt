@@ -1,5 +1,7 @@
 pub mod Rooms
 pub mod Digits
+pub mod Writing
+pub mod Feeds
 pub mod Tests
 pub mod Arms
 pub mod Determined

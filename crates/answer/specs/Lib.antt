@@ -1,3 +1,5 @@
 pub mod Refusals
 pub mod Replies
 pub mod Words
+pub mod Written
+pub mod Lines

@@ -6,6 +6,9 @@ use Rattle.hemotusap.proofs.names.hemotusap_quality.Reads as quality
 use Rattle.hemotusap.proofs.moves.hemotusap_get_note.Reads as get-note
 use Rattle.hemotusap.proofs.moves.hemotusap_transpose.Reads as transpose
 use Rattle.hemotusap.proofs.names.hemotusap_note_text.Reads as note-text
+use Rattle.hemotusap.proofs.symbols.hemotusap_suffix.Reads as suffix
+use Rattle.hemotusap.proofs.symbols.hemotusap_candidates.Reads as candidates
+use Rattle.hemotusap.proofs.symbols.hemotusap_candidate_count.Reads as candidate-count
 
 pub quality-decides : Decides quality.Post
 quality-decides κs a r r′ s s′ = determined
@@ -18,3 +21,12 @@ transpose-decides κs a r r′ s s′ = determined
 
 pub note-text-decides : DecidesWith note-text.Post (λ κs s. now (s .1 .1 .0))
 note-text-decides κs a r r′ s s′ = both
+
+pub suffix-decides : DecidesWith suffix.Post (λ κs s. now (s .1 .0))
+suffix-decides κs a r r′ s s′ = both
+
+pub candidates-decides : DecidesWith candidates.Post (λ κs s. now (s .1 .0))
+candidates-decides κs a r r′ s s′ = both
+
+pub candidate-count-decides : Decides candidate-count.Post
+candidate-count-decides κs a r r′ s s′ = determined

@@ -3,3 +3,4 @@
 mod host;
 pub mod moves;
 pub mod names;
+pub mod symbols;

@@ -8,7 +8,17 @@ const SET: &str = "
 VISIBILITY struct ELEMENTSet(u32);
 
 impl ELEMENTSet {
-    const RISING: &[ELEMENT] = &[VARIANTS];
+    // By number, which need not be the place in the declaration.
+    const NUMBERED: [Option<ELEMENT>; 32] = {
+        let declared = [VARIANTS];
+        let mut numbered = [None; 32];
+        let mut at = 0;
+        while at < declared.len() {
+            numbered[declared[at] as usize] = Some(declared[at]);
+            at += 1;
+        }
+        numbered
+    };
 
     pub const fn new() -> Self {
         Self(0)
@@ -79,10 +89,10 @@ impl Iterator for ELEMENTSetIter {
     type Item = ELEMENT;
 
     fn next(&mut self) -> Option<ELEMENT> {
-        let left = self.0;
-        let lowest = ELEMENTSet::RISING.iter().copied().find(|e| left.contains(*e))?;
-        self.0.remove(lowest);
-        Some(lowest)
+        let lowest = self.0.0.trailing_zeros() as usize;
+        let element = *ELEMENTSet::NUMBERED.get(lowest)?;
+        self.0.0 &= self.0.0 - 1;
+        element
     }
 }
 

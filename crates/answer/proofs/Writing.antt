@@ -1,0 +1,47 @@
+-- Laws of writing into a buffer.
+--     nothing     a text of no bytes is written by leaving all as it is
+--     also        a text written behind another makes their sum
+--     put-short   a short text's word, put at a place that has room
+--     Puts        a row of words put behind one another, in a buffer that keeps its length
+use mathlib.Core.Path.{_≡_, refl, sym, ap, _∙_}
+use mathlib.Core.List.{List, [], _++_, append-nil, append-assoc}
+use Prim.Native.Nat.{ℕ, _+_, _≤_}
+use native.Mathlib.Omega.{arith}
+use native.Mathlib.Nat.{add-zero, add-assoc}
+use lib.Dec.{T}
+use lib.ListN.{length, take, length-append}
+use Rattle.answer.specs.Words.{packed, placeAfter, putAt}
+use Rattle.answer.specs.Written.{Writes}
+use Rattle.answer.proofs.Digits.{isShort, place-text, put-text}
+
+pub nothing : (l : List ℕ) (at : ℕ) → Writes l at [] at l
+nothing l at = record { place = sym (add-zero at); added = sym (append-nil (take at l)) }
+
+pub also : {l l′ l″ : List ℕ} {at r r′ : ℕ} {t u : List ℕ} → Writes l at t r l′ → Writes l′ r u r′ l″ → Writes l at (t ++ u) r′ l″
+also {l} {l′} {l″} {at} {r} {r′} {t} {u} w v =
+    record {
+      place = v .place ∙ ap (λ (n : ℕ). n + length u) (w .place) ∙ simp (length-append, add-assoc);
+      added = v .added ∙ ap (λ (x : List ℕ). x ++ u) (w .added) ∙ append-assoc (take at l) t u;
+    }
+
+pub put-short : (t : List ℕ) → T (isShort t) → (l : List ℕ) (at word r : ℕ) (l′ : List ℕ) → word ≡ packed t → at + 8 ≤ length l
+    → (r ≡ placeAfter l at word) × (l′ ≡ putAt l at word) → Writes l at t r l′
+put-short t short l at word r l′ e room told =
+    let here : r ≡ at + length t = told .0 ∙ ap (placeAfter l at) e ∙ place-text t short l at room in
+    record { place = here; added = rw here (ap (take (at + length t)) (told .1 ∙ ap (putAt l at) e) ∙ put-text t short l at room) }
+
+pub record Puts (l₀ : List ℕ) (at : ℕ) (t : List ℕ) (r : ℕ) (l : List ℕ) : Type 0 where
+  pub wrote : Writes l₀ at t r l
+  pub same : length l ≡ length l₀
+
+pub no-puts : (l : List ℕ) (at : ℕ) → Puts l at [] at l
+no-puts l at = record { wrote = nothing l at; same = refl }
+
+-- one more: its word, the room that it has, and what the call told
+pub then-put : {l₀ l : List ℕ} {at r : ℕ} {t : List ℕ} → Puts l₀ at t r l → (u : List ℕ) → T (isShort u) → (word r′ : ℕ) (l′ : List ℕ) → word ≡ packed u
+    → at + length t + 8 ≤ length l₀ → (r′ ≡ placeAfter l r word) × (l′ ≡ putAt l r word) → length l′ ≡ length l → Puts l₀ at (t ++ u) r′ l′
+then-put {l₀} {l} {at} {r} {t} p u short word r′ l′ e room told kept =
+    record {
+      wrote = also (p .wrote) (put-short u short l r word r′ l′ e (omega (arith, p .wrote .place, p .same)) told);
+      same = kept ∙ p .same;
+    }

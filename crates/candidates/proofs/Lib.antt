@@ -1,0 +1,10 @@
+pub mod Members
+pub mod Firsts
+pub mod Turned
+pub mod Heard
+pub mod Parts
+pub mod Names
+pub mod Listed
+pub mod Counted
+pub mod Laws
+pub mod Determined

@@ -1,0 +1,81 @@
+-- `candidates::keys::find` meets its contract. The loop's invariant: what has been found before the key at `i`.
+use mathlib.Core.Path.{_≡_, refl, ap, ap₂, sym, subst, _∙_}
+use mathlib.Core.Bool.{false}
+use mathlib.Core.Logic.{⊎-elim}
+use Prim.Native.Nat.{ℕ, _+_, _-_, _/_, _%_, _^_, _<_, _≤_}
+use native.Mathlib.Omega.{arith}
+use lib.ListN.{length, getD, set, length-set}
+use denote.Ref.{now}
+use Rattle.chord.specs.Sets.{has}
+use Rattle.candidates.specs.Keys.{keyClass}
+use Rattle.candidates.proofs.Members.{present, missing, bit-held}
+use Rattle.candidates.proofs.Firsts.{Finding, start, pass, less, room, place, found}
+use Rattle.candidates.proofs.keys.find.Statement.{statement}
+use Rattle.candidates.proofs.keys.find.Tie as tie
+
+abbrev Inv-loop : tie.InvT-loop
+Inv-loop keys order₀ set₀ count₀ i₀ order set count i = (i ≤ length keys) × Finding keys i order set count × (length order ≡ length order₀)
+
+abbrev μ-loop : tie.MeasureT-loop
+μ-loop keys order₀ set₀ count₀ i₀ order set count i = length keys - i
+
+-- a class that has not occurred
+module _ (c : tie.Then1 Inv-loop μ-loop) where
+  absent : has (c .before .before .before .loop .set) (keyClass (getD (now (c .before .before .before .before .args .keys)) (c .before .before .before .loop .i) 0)) ≡ false
+  absent = missing _ _ (c .if1 .taken)
+
+  free : c .before .before .before .loop .count < 12
+  free =
+      let h = c .before .before .before .loop in
+      room (now (c .before .before .before .before .args .keys)) (h .order) (h .i) (h .set) (h .count) (omega arith) (h .inv .1) absent
+
+fits : tie.Need-add-set Inv-loop μ-loop
+fits c =
+    let h = c .before .before .before .loop in
+    let keys = now (c .before .before .before .before .args .keys) in
+    rw (bit-held (getD keys (h .i) 0)) (record { fits = omega (arith, less keys (h .order) (h .i) (h .set) (h .count) (omega arith) (h .inv .1) (absent c)) })
+
+loop-again : tie.Need-loop-again Inv-loop μ-loop
+loop-again c =
+    let h = c .before .before .before .loop in
+    let keys = now (c .before .before .before .before .args .keys) in
+    ⊎-elim
+    (λ w. (
+      omega arith,
+      rw (w .1, w .2, w .3, bit-held (getD keys (h .i) 0)) (place keys (h .order) (h .i) (h .set) (h .count) (omega arith) (h .inv .1) (missing _ _ (w .0 .taken)) (omega arith)),
+      ap length (w .1) ∙ simp length-set (h .inv .2),
+    ))
+    (λ w. (
+      omega arith,
+      rw (w .1, w .2, w .3) (pass keys (h .order) (h .i) (h .set) (h .count) (omega arith) (h .inv .1) (present _ _ (w .0 .left))),
+      ap length (w .1) ∙ h .inv .2,
+    ))
+    (c .if1 .came)
+
+returns : tie.Need-returns Inv-loop μ-loop
+returns c =
+    let h = c .before .loop in
+    let keys = now (c .before .before .args .keys) in
+    let end : h .i ≡ length keys = omega arith in
+    found keys (h .order) (h .set) (h .count) (omega arith) (subst (λ (n : ℕ). Finding keys n (h .order) (h .set) (h .count)) end (h .inv .1))
+
+pub find-spec : {M : Type 1} → statement M
+find-spec =
+    tie.close
+    (tie.spec
+    Inv-loop
+    μ-loop
+    (λ c. (omega arith, start _ _, refl))
+    (λ c. omega arith)
+    (λ c. omega arith)
+    (λ c. omega arith)
+    (λ c. omega (arith, free c))
+    (λ c. omega (arith, free c))
+    (λ c. omega arith)
+    (λ c. omega arith)
+    fits
+    (λ c. omega arith)
+    (λ c. omega arith)
+    loop-again
+    (λ c. c .before .loop .inv .2)
+    returns)

@@ -1,0 +1,51 @@
+-- `candidates::keys::seen_from` meets its contract. The loop's invariant: what has been seen is the set's classes below `k`.
+use mathlib.Core.Path.{_≡_, refl, ap, sym, _∙_}
+use Prim.Native.Nat.{ℕ, _+_, _-_, _*_, _/_, _%_, _^_, _<_, _≤_}
+use native.Mathlib.Nat.{lt-of-lt-of-le}
+use native.Mathlib.Omega.{arith}
+use lib.Pow.{pow-mono}
+use Rattle.candidates.specs.Keys.{seenBelow, seenFrom}
+use Rattle.candidates.proofs.Turned.{seen-next, seen-less}
+use Rattle.candidates.proofs.keys.seen_from.Statement.{statement}
+use Rattle.candidates.proofs.keys.seen_from.Tie as tie
+
+abbrev Inv-loop : tie.InvT-loop
+Inv-loop root set seen₀ k₀ seen k = (k ≤ 12) × (seen ≡ seenBelow k root set)
+
+abbrev μ-loop : tie.MeasureT-loop
+μ-loop root set seen₀ k₀ seen k = 12 - k
+
+returns : tie.Need-returns Inv-loop μ-loop
+unfolding seenFrom
+returns c =
+    let h = c .before .loop in
+    let end : h .k ≡ 12 = omega arith in
+    let all-seen = h .inv .1 ∙ ap (λ (k : ℕ). seenBelow k (c .before .before .args .root) (c .before .before .args .set)) end in
+    (all-seen, rw all-seen (seen-less 12 (c .before .before .args .root) (c .before .before .args .set)))
+
+-- a turn's sum
+module _ (root s seen k : ℕ) (h : k < 12) (e : seen ≡ seenBelow k root s) where
+  next : seen + s / 2 ^ ((root + k) % 12) % 2 * 2 ^ k % 2 ^ 32 ≡ seenBelow (k + 1) root s
+  next = ap (λ (x : ℕ). x + s / 2 ^ ((root + k) % 12) % 2 * 2 ^ k % 2 ^ 32) e ∙ seen-next root s k h
+
+  small : seen + s / 2 ^ ((root + k) % 12) % 2 * 2 ^ k % 2 ^ 32 < 2 ^ 12
+  small =
+      let most : k + 1 ≤ 12 = omega arith in
+      rw next (lt-of-lt-of-le (seen-less (k + 1) root s) (pow-mono most))
+
+pub seen-from-spec : {M : Type 1} → statement M
+unfolding seenBelow seenFrom
+seen-from-spec =
+    tie.close
+    (tie.spec
+    Inv-loop
+    μ-loop
+    (λ c. (omega arith, refl))
+    (λ c. omega arith)
+    (λ c. omega arith)
+    (λ c. omega arith)
+    (λ c. record { fits = omega (arith, small (c .before .before .args .root) (c .before .before .args .set) (c .before .loop .seen) (c .before .loop .k) (omega arith) (c .before .loop .inv .1)) })
+    (λ c. omega arith)
+    (λ c. omega arith)
+    (λ c. (omega arith, next (c .before .before .args .root) (c .before .before .args .set) (c .before .loop .seen) (c .before .loop .k) (omega arith) (c .before .loop .inv .1)))
+    returns)

@@ -1,0 +1,15 @@
+-- `candidates::lines::candidate_count` meets its contract: the count of ones of the list's set.
+use mathlib.Core.Path.{_≡_, ap, sym, _∙_}
+use borrow.Author.Needs.{needs}
+use Rattle.chord.specs.Sets.{classCount}
+use Rattle.candidates.proofs.Counted.{class-count}
+use Rattle.candidates.proofs.lines.candidate_count.Statement.{statement}
+use Rattle.candidates.proofs.lines.candidate_count.Tie as tie
+
+returns : tie.Need-returns
+returns c =
+    let f = c .before .before .find .ensures in
+    class-count _ (f .small) ∙ ap classCount (f .isSet)
+
+pub candidate-count-spec : {M : Type 1} → statement M
+candidate-count-spec = tie.close (tie.spec (λ c. search needs) (λ c κs. search needs) returns)

@@ -1,0 +1,57 @@
+-- `candidates::lines::candidates` meets its contract: the classes are found, their lines fill a buffer from the front, and those are given.
+use mathlib.Core.Path.{_≡_, ap, ap₂, sym, subst, _∙_}
+use mathlib.Core.List.{List}
+use Prim.Native.Nat.{ℕ, _<_, _≤_}
+use native.Mathlib.Nat.{zero-add}
+use native.Mathlib.Omega.{arith}
+use lib.ListN.{length, take, length-take}
+use denote.Ref.{now}
+use borrow.Author.Needs.{needs}
+use Rattle.answer.specs.Replies.{text, outputOf, roomAfter}
+use Rattle.inference.specs.Names.{flats}
+use Rattle.candidates.specs.Keys.{classSet, firsts, Finds}
+use Rattle.candidates.specs.Candidates.{Classes, listing, candidatesOf}
+use Rattle.candidates.proofs.Heard.{firsts-heard, firsts-less}
+use Rattle.candidates.proofs.lines.candidates.Statement.{statement}
+use Rattle.candidates.proofs.lines.candidates.Tie as tie
+
+-- what was found are classes of the set
+found-classes : (keys order : List ℕ) (set count : ℕ) → Finds keys order set count → Classes set (take count order)
+found-classes keys order set count f =
+    subst (λ (l : List ℕ). Classes set l) (sym (f .classes))
+    (λ i h. (firsts-less keys i h, rw (f .isSet) (firsts-heard keys i h)))
+
+put-lines-requires : tie.Need-put-lines-requires
+put-lines-requires c κs =
+    let f = c .before .before .before .find .ensures in
+    (f .small, omega (arith, ap length (f .classes), f .size, f .few), found-classes _ _ _ _ f, search needs)
+
+-- where the listing stands
+stands : (c : tie.After-put-lines)
+    → take (c .put-lines .result) (c .put-lines .last .0) ≡ candidatesOf flats (now (c .before .before .before .before .before .before .before .before .args .keys))
+unfolding candidatesOf
+stands c =
+    let f = c .before .before .before .before .find .ensures in
+    c .put-lines .ensures .added ∙ ap₂ (listing flats) (f .isSet) (f .classes)
+
+counts : (c : tie.After-put-lines) → c .put-lines .result ≡ length (take (c .put-lines .result) (c .put-lines .last .0))
+counts c = c .put-lines .ensures .place ∙ zero-add _ ∙ ap length (sym (c .put-lines .ensures .added))
+
+returns : tie.Need-returns
+returns c = rw (stands (c .before .before .before .before .before .before)) at (c .before .before .give .ensures)
+
+pub candidates-spec : {M : Type 1} → statement M
+candidates-spec =
+    tie.close
+    (tie.spec
+    (λ c. search needs)
+    (λ c κs. search needs)
+    (λ c. search needs)
+    (λ c. search needs)
+    (λ c. let f = c .before .before .before .find .ensures in f .size ∙ ap length (sym (f .classes)))
+    put-lines-requires
+    (λ c. omega (arith, counts (c .before), length-take (c .before .put-lines .result) (c .before .put-lines .last .0)))
+    (λ c. counts (c .before .before))
+    (λ c κs. search needs)
+    (λ c. search needs)
+    returns)

@@ -1,0 +1,122 @@
+// The candidates of a list of keys, a line each.
+use crate::keys::find;
+use crate::keys::seen_from;
+use answer::output::Output;
+use answer::output::give;
+use answer::word::put;
+use inference::normalize::suffix;
+use inference::tables::class_name;
+ghost use mathlib.Core.Path.{_≡_};
+ghost use mathlib.Core.Bool.{true};
+ghost use mathlib.Core.List.{[], _++_};
+ghost use Prim.Native.Nat.{_+_, _%_, _<_, _≤_};
+ghost use lib.ListN.{length, take};
+ghost use Rattle.answer.specs.Replies.{text, outputOf, roomAfter};
+ghost use Rattle.chord.specs.Sets.{has, classCount};
+ghost use Rattle.answer.specs.Written.{Writes};
+ghost use Rattle.inference.specs.Names.{nameOf, flats};
+ghost use Rattle.inference.specs.Suffix.{suffixOf};
+ghost use Rattle.candidates.specs.Keys.{seenFrom, classSet};
+ghost use Rattle.candidates.specs.Candidates.{Classes, chord, over, line, listing, candidatesOf};
+
+// A slash, and the end of a line.
+const SLASH: u64 = 0x010000000000002f;
+
+const LINE_FEED: u64 = 0x010000000000000a;
+
+// The suffix of a rooted set, behind what stands below a place.
+fn put_suffix(out: &mut [u8], at: usize, set: u32) -> usize
+    requires { ⌜ (set < 4096) × (set % 2 ≡ 1) × (at + 64 ≤ length (now out)) ⌝ }
+    ensures { λ r. ⌜ Writes (now (out .entry)) at (suffixOf set) r (now (out .exit)) ⌝ }
+{
+    match suffix(set, &mut out[at..]) {
+        Output::Written(count) => at + count,
+        Output::Refused(_) => at,
+    }
+}
+
+// A class as a root: its name, and the suffix of the set seen from it.
+fn put_chord(out: &mut [u8], class: u32, set: u32) -> usize
+    requires { ⌜ (class < 12) × (set < 4096) × (has set class ≡ true) × (66 ≤ length (now out)) ⌝ }
+    ensures { λ r. ⌜ Writes (now (out .entry)) 0 (chord flats set class) r (now (out .exit)) ⌝ }
+{
+    let named = put(out, 0, class_name(class));
+    put_suffix(out, named, seen_from(class, set))
+}
+
+// A slash, and the name of the first class.
+fn put_over(out: &mut [u8], at: usize, first: u32) -> usize
+    requires { ⌜ (first < 12) × (at + 9 ≤ length (now out)) ⌝ }
+    ensures { λ r. ⌜ Writes (now (out .entry)) at (over flats first) r (now (out .exit)) ⌝ }
+{
+    let slashed = put(out, at, SLASH);
+    put(out, slashed, class_name(first))
+}
+
+// The candidate of the first class.
+fn put_first(out: &mut [u8], class: u32, set: u32) -> usize
+    requires { ⌜ (class < 12) × (set < 4096) × (has set class ≡ true) × (80 ≤ length (now out)) ⌝ }
+    ensures { λ r. ⌜ Writes (now (out .entry)) 0 (line flats set [] class) r (now (out .exit)) ⌝ }
+{
+    let end = put_chord(out, class, set);
+    put(out, end, LINE_FEED)
+}
+
+// The candidate of another class, over the first.
+fn put_next(out: &mut [u8], class: u32, first: u32, set: u32) -> usize
+    requires { ⌜ (class < 12) × (set < 4096) × (has set class ≡ true) × (80 ≤ length (now out)) × (first < 12) ⌝ }
+    ensures { λ r. ⌜ Writes (now (out .entry)) 0 (line flats set (over flats first) class) r (now (out .exit)) ⌝ }
+{
+    let end = put_chord(out, class, set);
+    let over = put_over(out, end, first);
+    put(out, over, LINE_FEED)
+}
+
+// The candidates of the classes of a set, in their order: each goes into the part of `out` that is still free.
+fn put_lines(out: &mut [u8], order: &[u8], set: u32) -> usize
+    requires { ⌜ (set < 4096) × (length (now order) ≤ 12) × Classes set (now order) × (850 ≤ length (now out)) ⌝ }
+    ensures { λ r. ⌜ Writes (now (out .entry)) 0 (listing flats set (now (order .entry))) r (now (out .exit)) ⌝ }
+{
+    if order.len() == 0 {
+        return 0;
+    }
+    let first = wide(order[0]);
+    let mut used = put_first(out, first, set);
+    let mut i = 1;
+    while i < order.len() {
+        let class = wide(order[i]);
+        used += put_next(&mut out[used..], class, first, set);
+        i += 1;
+    }
+    used
+}
+
+fn wide(class: u8) -> u32
+    ensures { λ r. ⌜ r ≡ class ⌝ }
+{
+    class as u32
+}
+
+// Twelve lines of at most 70 bytes, and a word that is stored whole.
+const ROOM: usize = 850;
+
+// The candidates of a list of keys, a line each.
+pub fn candidates(keys: &[u8], out: &mut [u8]) -> Output
+    ensures { λ r. ⌜ (r ≡ outputOf (text (candidatesOf flats (now (keys .entry)))) (now (out .entry))) × (now (out .exit) ≡ roomAfter (text (candidatesOf flats (now (keys .entry)))) (now (out .entry))) ⌝ }
+{
+    let mut order = [0u8; 12];
+    let found = find(keys, &mut order);
+    let count = found.count;
+    let mut buffer = [0u8; ROOM];
+    let end = put_lines(&mut buffer, &order[..count], found.set);
+    give(&buffer[..end], out)
+}
+
+// How many candidates a list of keys has: the classes of its set.
+pub fn candidate_count(keys: &[u8]) -> u32
+    ensures { λ r. ⌜ r ≡ classCount (classSet (now (keys .entry))) ⌝ }
+{
+    let mut order = [0u8; 12];
+    let found = find(keys, &mut order);
+    u32::count_ones(found.set)
+}

@@ -1,0 +1,16 @@
+pub mod Agree
+pub mod Named
+pub mod Resolved
+pub mod Shown
+pub mod Read
+pub mod Added
+pub mod Parted
+pub mod Readings
+pub mod First
+pub mod Texts
+pub mod Turn
+pub mod Listed
+pub mod Headed
+pub mod Short
+pub mod Replied
+pub mod Determined

@@ -1,0 +1,46 @@
+-- No suffix of a rooted set is longer than 64 bytes, and none has an end of line: a test at each of the 2,048.
+--     suffix-short     the bound
+--     suffix-line      no end of line
+--     suffix-parts     the length of a suffix is that of what stands before the parentheses, and theirs
+use mathlib.Core.Path.{_≡_}
+use mathlib.Core.Bool.{Bool, _&&_}
+use mathlib.Core.List.{List, _++_}
+use Prim.Native.Nat.{ℕ, _+_, _%_, _≤_, _<_}
+use lib.Dec.{T, eqb, leb, eqb→eq, leb→le}
+use lib.ListN.{length, length-append}
+use Rattle.answer.specs.Words.{bytes}
+use Rattle.answer.specs.Lines.{lineFeeds}
+use Rattle.answer.proofs.Tests.{left, right, all}
+use Rattle.chord.specs.Sets.{has, hasAll, hasNone, classCount, countBelow}
+use Rattle.chord.specs.Intervals.{intervals}
+use Rattle.chord.specs.Qualities.{qualityOf}
+use Rattle.inference.specs.Intervals.{among, keep, only, atOnce, third, fourth, sixth, fifth, setOf, intervalsIn, intervalsOf}
+use Rattle.inference.specs.Parts.{hasThird, withThird, suffixQuality, isSus, within, alterationsOf, sixthAs13, extensionsOf, lastAdd, omitThird, omitFifth}
+use Rattle.inference.specs.Stack.{degreesOf, isDegree, reaches, isStacked, lastOf, modifierOf, isOwn, isAdd, addsOf}
+use Rattle.inference.specs.Heading.{nine, heading, sus}
+use Rattle.inference.specs.Suffix.{worded, addParts, parts, listed, close, parenthesized, suffixOf, longest}
+use Rattle.inference.proofs.Agree.{at-rooted}
+
+-- one line of so many bytes
+isLine : List ℕ → Bool
+isLine t = leb (length t) longest && eqb (lineFeeds t) 0
+
+fits : ℕ → Bool
+fits s = isLine (suffixOf s)
+
+all-fit : (s : ℕ) → s < 4096 → s % 2 ≡ 1 → T (fits s)
+unfolding all fits isLine lineFeeds bytes has hasAll hasNone classCount countBelow qualityOf intervals among keep only atOnce third fourth sixth fifth setOf intervalsIn intervalsOf hasThird withThird suffixQuality isSus within alterationsOf sixthAs13 extensionsOf degreesOf isDegree reaches isStacked lastOf modifierOf isOwn isAdd addsOf lastAdd omitThird omitFifth nine worded addParts parts listed close parenthesized heading sus suffixOf
+all-fit = at-rooted fits tt
+
+module _ (s : ℕ) (small : s < 4096) (odd : s % 2 ≡ 1) where
+  pub suffix-short : length (suffixOf s) ≤ longest
+  unfolding fits isLine
+  suffix-short = leb→le (length (suffixOf s)) longest (left (leb (length (suffixOf s)) longest) (eqb (lineFeeds (suffixOf s)) 0) (all-fit s small odd))
+
+  pub suffix-line : lineFeeds (suffixOf s) ≡ 0
+  unfolding fits isLine
+  suffix-line = eqb→eq (lineFeeds (suffixOf s)) 0 (right (leb (length (suffixOf s)) longest) (eqb (lineFeeds (suffixOf s)) 0) (all-fit s small odd))
+
+pub suffix-parts : (s : ℕ) → length (suffixOf s) ≡ length (heading s ++ sus s) + length (parenthesized (parts s))
+unfolding suffixOf
+suffix-parts s = length-append (heading s ++ sus s) (parenthesized (parts s))

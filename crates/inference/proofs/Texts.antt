@@ -1,0 +1,111 @@
+-- The texts of a suffix are short.
+use mathlib.Core.Bool.{Bool, true, false, cond}
+use mathlib.Core.List.{[]}
+use lib.Dec.{T}
+use Rattle.answer.specs.Words.{bytes}
+use Rattle.answer.proofs.Digits.{areBytes, isShort}
+use Rattle.chord.specs.Intervals.{notationOf}
+use Rattle.chord.specs.declared.interval.Interval.{Interval}
+use Rattle.chord.specs.declared.interval.Interval.the-variants.{Unison, MinorSecond, MajorSecond, MinorThird, MajorThird, PerfectFourth, AugmentedFourth, DiminishedFifth, PerfectFifth, AugmentedFifth, MinorSixth, MajorSixth, DiminishedSeventh, MinorSeventh, MajorSeventh, Octave, FlatNinth, Ninth, SharpNinth, Eleventh, SharpEleventh, FlatThirteenth, Thirteenth}
+use Rattle.chord.specs.declared.interval.Numbered.{Numbered}
+use Rattle.chord.specs.declared.interval.Numbered.the-variants.{Is, Nothing}
+use Rattle.chord.specs.declared.quality.ChordQuality.{ChordQuality}
+use Rattle.chord.specs.declared.quality.ChordQuality.the-variants.{Maj, Maj6, Maj7, Dominant7, Mi, Mi6, Mi7, MiMaj7, Augmented, Diminished, Diminished7, Power, Bass}
+use Rattle.inference.specs.Heading.{wording, modified}
+use Rattle.inference.specs.declared.wording.Carried.{Carried}
+use Rattle.inference.specs.declared.wording.Carried.the-variants as Carries
+use Rattle.inference.specs.Held.{carriedText}
+
+pub notation-short : (i : Interval) → T (isShort (notationOf i))
+unfolding bytes areBytes isShort
+notation-short Unison = tt
+notation-short MinorSecond = tt
+notation-short MajorSecond = tt
+notation-short MinorThird = tt
+notation-short MajorThird = tt
+notation-short PerfectFourth = tt
+notation-short AugmentedFourth = tt
+notation-short DiminishedFifth = tt
+notation-short PerfectFifth = tt
+notation-short AugmentedFifth = tt
+notation-short MinorSixth = tt
+notation-short MajorSixth = tt
+notation-short DiminishedSeventh = tt
+notation-short MinorSeventh = tt
+notation-short MajorSeventh = tt
+notation-short Octave = tt
+notation-short FlatNinth = tt
+notation-short Ninth = tt
+notation-short SharpNinth = tt
+notation-short Eleventh = tt
+notation-short SharpEleventh = tt
+notation-short FlatThirteenth = tt
+notation-short Thirteenth = tt
+
+pub wording-short : (q : ChordQuality) → T (isShort (wording q))
+unfolding bytes areBytes isShort
+wording-short Maj = tt
+wording-short Maj6 = tt
+wording-short Maj7 = tt
+wording-short Dominant7 = tt
+wording-short Mi = tt
+wording-short Mi6 = tt
+wording-short Mi7 = tt
+wording-short MiMaj7 = tt
+wording-short Augmented = tt
+wording-short Diminished = tt
+wording-short Diminished7 = tt
+wording-short Power = tt
+wording-short Bass = tt
+
+or-seven-short : (m : Numbered) → T (isShort (modified Maj7 m))
+unfolding bytes areBytes isShort
+or-seven-short (Is i) = notation-short i
+or-seven-short Nothing = tt
+
+pub or-nothing-short : (m : Numbered) → T (isShort (modified Maj6 m))
+unfolding bytes areBytes isShort
+or-nothing-short (Is i) = notation-short i
+or-nothing-short Nothing = tt
+
+pub modified-short : (q : ChordQuality) (m : Numbered) → T (isShort (modified q m))
+unfolding areBytes isShort
+modified-short Maj m = tt
+modified-short Maj6 m = or-nothing-short m
+modified-short Maj7 m = or-seven-short m
+modified-short Dominant7 m = or-seven-short m
+modified-short Mi m = tt
+modified-short Mi6 m = tt
+modified-short Mi7 m = or-seven-short m
+modified-short MiMaj7 m = or-seven-short m
+modified-short Augmented m = or-nothing-short m
+modified-short Diminished m = tt
+modified-short Diminished7 m = tt
+modified-short Power m = tt
+modified-short Bass m = tt
+
+pub opening-short : (b : Bool) → T (isShort (cond b (bytes "(") (bytes ",")))
+unfolding bytes areBytes isShort
+opening-short true = tt
+opening-short false = tt
+
+pub closing-short : (b : Bool) → T (isShort (cond b [] (bytes ")")))
+unfolding bytes areBytes isShort
+closing-short true = tt
+closing-short false = tt
+
+pub nine-short : (b : Bool) → T (isShort (cond b (bytes "9") []))
+unfolding bytes areBytes isShort
+nine-short true = tt
+nine-short false = tt
+
+pub sus-short : (b : Bool) → T (isShort (cond b (bytes "sus") []))
+unfolding bytes areBytes isShort
+sus-short true = tt
+sus-short false = tt
+
+pub carried-short : (w : Carried) → T (isShort (carriedText w))
+unfolding bytes areBytes isShort
+carried-short Carries.Nothing = tt
+carried-short Carries.Add = tt
+carried-short Carries.Omit = tt

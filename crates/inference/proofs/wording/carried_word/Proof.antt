@@ -1,0 +1,17 @@
+-- `inference::wording::carried_word` meets its contract: each word is its text's.
+use borrow.Author.Needs.{needs}
+use Rattle.answer.specs.Words.{bytes, low, packed}
+use Rattle.inference.proofs.wording.carried_word.Statement.{statement}
+use Rattle.inference.proofs.wording.carried_word.Tie as tie
+
+pub carried-word-spec : {M : Type 1} → statement M
+unfolding bytes low packed
+carried-word-spec =
+    tie.close
+    (tie.spec
+    (λ c. search needs)
+    (λ c. search needs)
+    (λ c. search needs)
+    (λ c. rw (c .enum-told .given .1))
+    (λ c. rw (c .enum-told2 .given .1))
+    (λ c. rw (c .enum-told3 .given .1)))

@@ -1,0 +1,7 @@
+// From the classes that sound to how a chord is written: the Rust's `inference` module.
+pub mod intervals;
+mod kinds;
+pub mod normalize;
+mod reading;
+pub mod tables;
+mod wording;

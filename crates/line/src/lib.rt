@@ -1,0 +1,3 @@
+// What `chordlist` prints for a line of text.
+mod codes;
+pub mod reply;

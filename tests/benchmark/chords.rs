@@ -1,0 +1,98 @@
+//! Candidates, suffixes and qualities. Each is first held to the Rust's answers, on the inputs that are then timed. The
+//! Rust's own types are made before; the library writes into one buffer, which is not cleared between calls.
+
+use std::borrow::Cow;
+
+use crate::chord::interval::{IntervalSet, THIRDS_SET};
+use crate::chord::quality::Pc::{self, *};
+use crate::chord::quality::{ChordQuality, PcSet};
+use crate::host;
+use crate::inference::descriptors_from_midi_codes;
+use crate::inference::normalize::normalized_descriptor;
+use crate::turns::{Times, in_turns};
+
+const CLASSES: [Pc; 12] = [Pc0, Pc1, Pc2, Pc3, Pc4, Pc5, Pc6, Pc7, Pc8, Pc9, Pc10, Pc11];
+
+/// More than any answer takes.
+const ROOM: usize = 1024;
+
+fn text(out: &[u8], length: i64) -> Cow<'_, str> {
+    let length = usize::try_from(length).expect("the library refuses none of these");
+    String::from_utf8_lossy(&out[..length])
+}
+
+pub fn candidates(lists: &[Vec<u8>]) -> Times {
+    let mut out = [0; ROOM];
+    for list in lists {
+        let mut lines = descriptors_from_midi_codes(list).join("\n");
+        lines.push('\n');
+        let length = host::candidates(list, &mut out);
+        assert_eq!(lines, text(&out, length), "of {list:?}");
+    }
+    in_turns(
+        lists,
+        |list| descriptors_from_midi_codes(list),
+        |list| host::candidates(list, &mut out),
+    )
+}
+
+/// A set as the library takes it, and as the Rust does.
+struct Set {
+    number: u32,
+    classes: PcSet,
+    codes: Vec<u8>,
+}
+
+fn set(number: u32) -> Set {
+    let codes: Vec<u8> = (0..12).filter(|at| number >> at & 1 == 1).collect();
+    Set {
+        number,
+        classes: codes.iter().map(|&at| CLASSES[at as usize]).collect(),
+        codes,
+    }
+}
+
+/// What `descriptors_from_midi_codes` does for one root, its name aside.
+fn of_one_root(set: &Set) -> String {
+    let mut classes = set.classes;
+    let intervals: IntervalSet = classes.into();
+    if intervals.intersection(&THIRDS_SET).is_empty() {
+        classes.insert(Pc4);
+    }
+    normalized_descriptor(intervals, (&classes).into())
+}
+
+/// The Rust's public way to a suffix: all candidates, of which the first is `C` and the suffix.
+fn of_first_candidate(set: &Set) -> String {
+    let mut descriptor = descriptors_from_midi_codes(&set.codes).swap_remove(0);
+    descriptor.remove(0);
+    descriptor
+}
+
+pub fn suffix() -> Times {
+    suffix_beside(of_one_root)
+}
+
+pub fn suffix_beside_public_call() -> Times {
+    suffix_beside(of_first_candidate)
+}
+
+fn suffix_beside(rust: impl Fn(&Set) -> String) -> Times {
+    let rooted: Vec<Set> = (1..4096).step_by(2).map(set).collect();
+    let mut out = [0; ROOM];
+    for set in &rooted {
+        let length = host::suffix(set.number, &mut out);
+        assert_eq!(rust(set), text(&out, length), "of {}", set.number);
+    }
+    in_turns(&rooted, rust, |set| host::suffix(set.number, &mut out))
+}
+
+pub fn quality() -> Times {
+    let sets: Vec<Set> = (0..4096).map(set).collect();
+    let rust = |set: &Set| ChordQuality::from(&set.classes);
+    let ours = |set: &Set| host::hemotusap_quality(set.number);
+    for set in &sets {
+        assert_eq!(rust(set) as i64, ours(set), "of {}", set.number);
+    }
+    in_turns(&sets, rust, ours)
+}

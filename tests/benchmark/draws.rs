@@ -1,0 +1,35 @@
+//! Lists of MIDI codes drawn by SplitMix64, the same in each run.
+
+pub struct Draws(pub u64);
+
+impl Draws {
+    fn next(&mut self) -> u64 {
+        self.0 = self.0.wrapping_add(0x9E37_79B9_7F4A_7C15);
+        let mut drawn = self.0;
+        drawn = (drawn ^ drawn >> 30).wrapping_mul(0xBF58_476D_1CE4_E5B9);
+        drawn = (drawn ^ drawn >> 27).wrapping_mul(0x94D0_49BB_1331_11EB);
+        drawn ^ drawn >> 31
+    }
+
+    fn below(&mut self, limit: usize) -> usize {
+        (self.next() % limit as u64) as usize
+    }
+
+    /// Codes of MIDI 1.0, which stops at 127.
+    fn list(&mut self, length: usize) -> Vec<u8> {
+        (0..length).map(|_| self.below(128) as u8).collect()
+    }
+
+    pub fn lists(&mut self, count: usize, length: usize) -> Vec<Vec<u8>> {
+        (0..count).map(|_| self.list(length)).collect()
+    }
+
+    pub fn lists_up_to(&mut self, count: usize, longest: usize) -> Vec<Vec<u8>> {
+        (0..count)
+            .map(|_| {
+                let length = 1 + self.below(longest);
+                self.list(length)
+            })
+            .collect()
+    }
+}

@@ -1,0 +1,25 @@
+//! The library, through the boundary that include/hemotusap.h declares.
+
+unsafe extern "C" {
+    fn hemotusap_suffix(set: u32, out: *mut u8, room: usize) -> i64;
+    fn hemotusap_candidates(codes: *const u8, count: usize, out: *mut u8, room: usize) -> i64;
+    pub safe fn hemotusap_quality(set: u32) -> i64;
+    pub safe fn hemotusap_get_note(
+        letter: u32,
+        accidental: i32,
+        semitones: u32,
+        degree: u32,
+    ) -> i64;
+}
+
+// A borrowed range is valid memory of its length, and a mutable one overlaps no other: that is all the boundary asks.
+
+#[inline]
+pub fn suffix(set: u32, out: &mut [u8]) -> i64 {
+    unsafe { hemotusap_suffix(set, out.as_mut_ptr(), out.len()) }
+}
+
+#[inline]
+pub fn candidates(codes: &[u8], out: &mut [u8]) -> i64 {
+    unsafe { hemotusap_candidates(codes.as_ptr(), codes.len(), out.as_mut_ptr(), out.len()) }
+}

@@ -1,0 +1,55 @@
+//! The benchmark: the carried Rust, unchanged, and the library's archive in one program.
+
+// Most of the carried source is never measured here, so unused items say nothing.
+#[allow(dead_code)]
+#[path = "../../docs/src/src/chord/mod.rs"]
+mod chord;
+mod chords;
+mod draws;
+mod host;
+#[allow(dead_code)]
+#[path = "../../docs/src/src/inference/mod.rs"]
+mod inference;
+mod moves;
+#[allow(dead_code)]
+#[path = "../oracle/stand-ins/parsing.rs"]
+mod parsing;
+mod turns;
+
+use chords::candidates;
+use draws::Draws;
+use turns::Times;
+
+/// Lengths of lists, and how many lists: where memory allows, more than a predictor of branches learns by heart.
+const LENGTHS: [(&str, usize, usize); 6] = [
+    ("candidates of 1 code", 1, 1_000),
+    ("candidates of 10 codes", 10, 1_000),
+    ("candidates of 100 codes", 100, 1_000),
+    ("candidates of 1,000 codes", 1_000, 1_000),
+    ("candidates of 10,000 codes", 10_000, 200),
+    ("candidates of 100,000 codes", 100_000, 20),
+];
+
+fn main() {
+    let mut draws = Draws(1);
+    println!("nanoseconds per call                          Rust     Hemotusap     ratio");
+    row(
+        "candidates of 1 to 10 codes",
+        candidates(&draws.lists_up_to(1_000, 10)),
+    );
+    for (what, length, count) in LENGTHS {
+        row(what, candidates(&draws.lists(count, length)));
+    }
+    row("suffix, 2,048 rooted sets", chords::suffix());
+    row(
+        "suffix, the Rust by its public call",
+        chords::suffix_beside_public_call(),
+    );
+    row("quality, 4,096 sets", chords::quality());
+    row("get_note, 31,850 moves", moves::get_note());
+}
+
+fn row(what: &str, times: Times) {
+    let Times { rust, ours } = times;
+    println!("{what:<36}{rust:>14.1}{ours:>14.1}{:>10.2}", rust / ours);
+}

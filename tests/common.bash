@@ -1,0 +1,46 @@
+# What the commands of this folder share: the carried Rust is as it was carried, and the machine has what they need,
+# installed from Debian where it is missing.
+
+fail() {
+  printf '%s: %s\n' "${0##*/}" "$*" >&2
+  exit 1
+}
+
+# The sums say that each file is as it was carried; the names, that none is missing or added.
+check_carried() {
+  sha256sum --check --strict --quiet docs/src.sha256
+  diff <(cut -c 67- docs/src.sha256 | LC_ALL=C sort) <(find docs/src ! -type d | LC_ALL=C sort) >&2 ||
+    fail "docs/src holds other files than docs/src.sha256 lists"
+}
+
+install_packages() { # PACKAGES...
+  local as_root=()
+  command -v apt-get >/dev/null || fail "apt-get is missing, and with it a way to install $*"
+  if [ "$(id -u)" -ne 0 ]; then
+    command -v sudo >/dev/null || fail "it takes root or sudo to install $*"
+    as_root=(sudo)
+  fi
+  "${as_root[@]}" apt-get --quiet=2 update >&2 &&
+    "${as_root[@]}" env DEBIAN_FRONTEND=noninteractive \
+      apt-get --quiet=2 --yes install --no-install-recommends "$@" >&2
+}
+
+need() { # COMMAND PACKAGES...
+  command -v "$1" >/dev/null && return
+  install_packages "${@:2}"
+  command -v "$1" >/dev/null || fail "there is no $1, though ${*:2} are installed"
+}
+
+need_kit() {
+  command -v rt >/dev/null || fail "rt, the command of the Rattle kit, is missing"
+}
+
+need_rust() {
+  need cc gcc libc6-dev
+  # Where Debian's rustc is too old for the carried Rust, a newer one comes as rustc-web.
+  command -v rustc >/dev/null || install_packages rustc-web || install_packages rustc
+  local version
+  version=$(rustc --version)
+  [[ $version =~ ^rustc\ 1\.([0-9]+)\. && ${BASH_REMATCH[1]} -ge 85 ]] ||
+    fail "the carried Rust is of edition 2024, which needs rustc 1.85 or later; here is $version"
+}

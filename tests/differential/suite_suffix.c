@@ -1,0 +1,48 @@
+/* suffix: all rooted sets by the oracle, in every room; other sets are refused before the room is
+   looked at. */
+#include <string.h>
+
+#include "hemotusap.h"
+#include "length.h"
+#include "suite.h"
+#include "written.h"
+
+enum { SETS = 4096, LONGEST = 64 };
+
+/* None, too little for most answers, enough for each: refusal 1 comes before 7 in all. */
+static const size_t rooms[] = {0, 1, LONGEST};
+
+static int64_t write_suffix(const struct call *call, uint8_t *out)
+{
+    return hemotusap_suffix((uint32_t)call->numbers[0], out, (size_t)call->room);
+}
+
+static void every_rooted_set(struct run *run)
+{
+    for (uint32_t set = 1; set < SETS; set += 2) {
+        const struct call *call = CALL("suffix", set);
+        const char *answer = oracle_answer(run, call);
+        if (answer != NULL)
+            expect_written(run, call, write_suffix, (const uint8_t *)answer, strlen(answer));
+    }
+}
+
+static void refused(struct run *run, int64_t set)
+{
+    for (unsigned at = 0; at < LENGTH(rooms); at++)
+        expect_unwritten_in(run, CALL("suffix", set), write_suffix, BAD_SET, rooms[at]);
+}
+
+static void sets_refused(struct run *run)
+{
+    for (int64_t set = 0; set < SETS; set += 2)
+        refused(run, set);
+    for (int bit = 12; bit <= 32; bit++)
+        for (int64_t near = -1; near <= 1; near++) {
+            int64_t set = (INT64_C(1) << bit) + near;
+            if (set >= SETS && set <= UINT32_MAX)
+                refused(run, set);
+        }
+}
+
+const struct suite suffix_suite = {"suffix", every_rooted_set, sets_refused};
