@@ -1,6 +1,6 @@
 // The classes of a list of MIDI keys, and a set of classes seen from another root, as in the Rust's `inference/mod.rs`.
 ghost use mathlib.Core.Path.{_≡_};
-ghost use Prim.Native.Nat.{_<_, _≤_};
+ghost use Prim.Native.Nat.{_%_, _<_, _≤_};
 ghost use lib.ListN.{length, take};
 ghost use Rattle.candidates.specs.Keys.{Finds, seenFrom};
 
@@ -32,6 +32,17 @@ pub(crate) fn find(keys: &[u8], order: &mut [u8]) -> Found
     Found { set, count }
 }
 
+// A class of the two octaves above C, in the first: a division costs more than the rest of a walk's step.
+fn in_octave(class: u32) -> u32
+    requires { ⌜ class < 24 ⌝ }
+    ensures { λ r. ⌜ r ≡ class % 12 ⌝ }
+{
+    if class < CLASSES {
+        return class;
+    }
+    class - CLASSES
+}
+
 // A set seen from one of its classes, by a walk over the twelve: its class k is the one k above the root.
 pub(crate) fn seen_from(root: u32, set: u32) -> u32
     requires { ⌜ (root < 12) × (set < 4096) ⌝ }
@@ -40,7 +51,7 @@ pub(crate) fn seen_from(root: u32, set: u32) -> u32
     let mut seen: u32 = 0;
     let mut k: u32 = 0;
     while k < CLASSES {
-        seen += (set >> ((root + k) % CLASSES)) % 2 << k;
+        seen += (set >> in_octave(root + k)) % 2 << k;
         k += 1;
     }
     seen

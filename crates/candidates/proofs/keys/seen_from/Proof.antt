@@ -1,5 +1,5 @@
 -- `candidates::keys::seen_from` meets its contract. The loop's invariant: what has been seen is the set's classes below `k`.
-use mathlib.Core.Path.{_≡_, refl, ap, sym, _∙_}
+use mathlib.Core.Path.{_≡_, refl, ap, ap₂, _∙_}
 use Prim.Native.Nat.{ℕ, _+_, _-_, _*_, _/_, _%_, _^_, _<_, _≤_}
 use native.Mathlib.Nat.{lt-of-lt-of-le}
 use native.Mathlib.Omega.{arith}
@@ -24,11 +24,11 @@ returns c =
     (all-seen, rw all-seen (seen-less 12 (c .before .before .args .root) (c .before .before .args .set)))
 
 -- a turn's sum
-module _ (root s seen k : ℕ) (h : k < 12) (e : seen ≡ seenBelow k root s) where
-  next : seen + s / 2 ^ ((root + k) % 12) % 2 * 2 ^ k % 2 ^ 32 ≡ seenBelow (k + 1) root s
-  next = ap (λ (x : ℕ). x + s / 2 ^ ((root + k) % 12) % 2 * 2 ^ k % 2 ^ 32) e ∙ seen-next root s k h
+module _ (root s seen k class : ℕ) (h : k < 12) (e : seen ≡ seenBelow k root s) (is : class ≡ (root + k) % 12) where
+  next : seen + s / 2 ^ class % 2 * 2 ^ k % 2 ^ 32 ≡ seenBelow (k + 1) root s
+  next = ap₂ (λ (x c : ℕ). x + s / 2 ^ c % 2 * 2 ^ k % 2 ^ 32) e is ∙ seen-next root s k h
 
-  small : seen + s / 2 ^ ((root + k) % 12) % 2 * 2 ^ k % 2 ^ 32 < 2 ^ 12
+  small : seen + s / 2 ^ class % 2 * 2 ^ k % 2 ^ 32 < 2 ^ 12
   small =
       let most : k + 1 ≤ 12 = omega arith in
       rw next (lt-of-lt-of-le (seen-less (k + 1) root s) (pow-mono most))
@@ -42,10 +42,11 @@ seen-from-spec =
     μ-loop
     (λ c. (omega arith, refl))
     (λ c. omega arith)
+    (λ c κs. omega arith)
+    (λ c. omega (arith, c .in-octave .ensures))
+    (λ c. omega arith)
+    (λ c. record { fits = omega (arith, small _ _ _ _ _ (omega arith) (c .before .before .loop .inv .1) (c .in-octave .ensures)) })
     (λ c. omega arith)
     (λ c. omega arith)
-    (λ c. record { fits = omega (arith, small (c .before .before .args .root) (c .before .before .args .set) (c .before .loop .seen) (c .before .loop .k) (omega arith) (c .before .loop .inv .1)) })
-    (λ c. omega arith)
-    (λ c. omega arith)
-    (λ c. (omega arith, next (c .before .before .args .root) (c .before .before .args .set) (c .before .loop .seen) (c .before .loop .k) (omega arith) (c .before .loop .inv .1)))
+    (λ c. (omega arith, next _ _ _ _ _ (omega arith) (c .before .before .loop .inv .1) (c .in-octave .ensures)))
     returns)
