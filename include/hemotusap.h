@@ -2,6 +2,7 @@
  *
  * An answer at or above 0 is a success. Below 0 it is minus the number of a refusal:
  *   -1  the set is above 4095, or, except for the quality, without class 0
+ *   -2  a root class is above 11
  *   -5  a letter is above 6, or an accidental outside -6..6
  *   -6  semitones are above 24, or the degree is 0 or above 14
  *   -7  the output is shorter than the whole answer
@@ -34,6 +35,19 @@ int64_t hemotusap_quality(uint32_t set);
  * "sus", then alterations, adds and omits in parentheses, as in "7sus(b9)". Answers the bytes
  * written, at most 64; no NUL follows them. Refuses: -1, -7. */
 int64_t hemotusap_suffix(uint32_t set, uint8_t *out, size_t room);
+
+/* Writes the sets that have this suffix: every set that holds class 0 and whose suffix is exactly
+ * the text, in rising order, each as two bytes, the higher one first. Any bytes of any length are
+ * a text; one that no set has is answered with 0. The empty text is the suffix of the plain major
+ * chord. Answers the bytes written, at most 32. Refuses: -7. */
+int64_t hemotusap_listing(const uint8_t *suffix, size_t length, uint8_t *out, size_t room);
+
+/* Writes the notes of a set that holds class 0, above the root of class `root`, 0..11 (C Db D Eb E
+ * F Gb G Ab A Bb B). The set is read as the intervals of a chord, ninths, elevenths and thirteenths
+ * among them, and each is spelled by its degree as get_note does, the narrowest first; a note is as
+ * note_text writes it, and one space stands between two, as in "C Eb F#". Answers the bytes
+ * written, 1..34; no NUL follows them. Refuses: -1, -2, -7. */
+int64_t hemotusap_tones(uint32_t root, uint32_t set, uint8_t *out, size_t room);
 
 /* Writes the candidates of a list of MIDI codes; any byte is one, and its class is the code mod
  * 12. For each code whose class has not occurred before, in the list's order: the name of its

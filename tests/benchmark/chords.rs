@@ -37,8 +37,8 @@ pub fn candidates(lists: &[Vec<u8>]) -> Times {
 }
 
 /// A set as the library takes it, and as the Rust does.
-struct Set {
-    number: u32,
+pub struct Set {
+    pub number: u32,
     classes: PcSet,
     codes: Vec<u8>,
 }
@@ -52,8 +52,12 @@ fn set(number: u32) -> Set {
     }
 }
 
+pub fn rooted() -> Vec<Set> {
+    (1..4096).step_by(2).map(set).collect()
+}
+
 /// What `descriptors_from_midi_codes` does for one root, its name aside.
-fn of_one_root(set: &Set) -> String {
+pub fn of_one_root(set: &Set) -> String {
     let mut classes = set.classes;
     let intervals: IntervalSet = classes.into();
     if intervals.intersection(&THIRDS_SET).is_empty() {
@@ -78,7 +82,7 @@ pub fn suffix_beside_public_call() -> Times {
 }
 
 fn suffix_beside(rust: impl Fn(&Set) -> String) -> Times {
-    let rooted: Vec<Set> = (1..4096).step_by(2).map(set).collect();
+    let rooted = rooted();
     let mut out = [0; ROOM];
     for set in &rooted {
         let length = host::suffix(set.number, &mut out);

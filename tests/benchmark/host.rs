@@ -2,6 +2,7 @@
 
 unsafe extern "C" {
     fn hemotusap_suffix(set: u32, out: *mut u8, room: usize) -> i64;
+    fn hemotusap_listing(suffix: *const u8, length: usize, out: *mut u8, room: usize) -> i64;
     fn hemotusap_candidates(codes: *const u8, count: usize, out: *mut u8, room: usize) -> i64;
     pub safe fn hemotusap_quality(set: u32) -> i64;
     pub safe fn hemotusap_get_note(
@@ -17,6 +18,11 @@ unsafe extern "C" {
 #[inline]
 pub fn suffix(set: u32, out: &mut [u8]) -> i64 {
     unsafe { hemotusap_suffix(set, out.as_mut_ptr(), out.len()) }
+}
+
+#[inline]
+pub fn listing(suffix: &[u8], out: &mut [u8]) -> i64 {
+    unsafe { hemotusap_listing(suffix.as_ptr(), suffix.len(), out.as_mut_ptr(), out.len()) }
 }
 
 #[inline]

@@ -10,6 +10,7 @@ mod host;
 #[allow(dead_code)]
 #[path = "../../docs/src/src/inference/mod.rs"]
 mod inference;
+mod listings;
 mod moves;
 #[allow(dead_code)]
 #[path = "../oracle/stand-ins/parsing.rs"]
@@ -45,6 +46,9 @@ fn main() {
         "suffix, the Rust by its public call",
         chords::suffix_beside_public_call(),
     );
+    row("listing, all 1,171 suffixes", listings::every_suffix());
+    row("listing, texts that no set has", listings::no_suffix());
+    row("listing, longer than any suffix", listings::too_long());
     row("quality, 4,096 sets", chords::quality());
     row("get_note, 31,850 moves", moves::get_note());
 }

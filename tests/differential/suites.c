@@ -5,7 +5,7 @@
 #include "suite.h"
 
 extern const struct suite quality_suite, get_note_suite, transpose_suite, note_text_suite,
-    suffix_suite, candidates_suite;
+    suffix_suite, candidates_suite, listing_suite, tones_suite;
 
 static const struct suite *const suites[] = {
     &quality_suite,
@@ -14,6 +14,8 @@ static const struct suite *const suites[] = {
     &note_text_suite,
     &suffix_suite,
     &candidates_suite,
+    &listing_suite,
+    &tones_suite,
 };
 
 const struct suite *suite_named(const char *name)

@@ -3,6 +3,7 @@
 //! - `quality SET`: the quality's number, in the order of quality.rs
 //! - `suffix SET`: what stands behind the root's name for a rooted set
 //! - `candidates N CODE..`: the descriptors, a tab between
+//! - `tones ROOT SET`: the notes of a rooted set's intervals, a space between
 //! - `get_note LETTER COUNT SEMITONES DEGREE`: `LETTER COUNT`
 //! - `transpose FROM.. NOTE.. TO..`, each `LETTER COUNT`: `LETTER COUNT`
 //! - `voicing ROOT BASS LEAD N CLASS.. M INTERVAL..` (bass 255, lead 256: none): the keys, a space between
@@ -15,6 +16,8 @@ use crate::chord::note::{Note, NoteLiteral, NoteModifier};
 use crate::chord::quality::Pc::{self, *};
 use crate::chord::quality::{ChordQuality, PcSet};
 use crate::inference::descriptors_from_midi_codes;
+use crate::numbers::{below, byte, bytes, counted, end_of, number, unless};
+use crate::tones;
 use crate::voicings::generate_voicing;
 
 type Answer = Result<String, String>;
@@ -58,6 +61,7 @@ pub fn answer(request: &str) -> Answer {
         ("quality", &[set]) => quality(set),
         ("suffix", &[set]) => suffix(set),
         ("candidates", list) => candidates(list),
+        ("tones", &[root, set]) => tones(root, set),
         ("get_note", &[letter, count, semitones, degree]) => {
             get_note(note(letter, count)?, semitones, degree)
         }
@@ -71,20 +75,13 @@ pub fn answer(request: &str) -> Answer {
 }
 
 fn quality(set: i64) -> Answer {
-    let set: PcSet = classes_in(set)?
-        .iter()
-        .map(|&class| CLASSES[class as usize])
-        .collect();
+    let set = pc_set(&classes_in(set)?);
     Ok((ChordQuality::from(&set) as u8).to_string())
 }
 
 /// Class 0 comes first, so the first descriptor is `C`, the suffix, and no bass.
 fn suffix(set: i64) -> Answer {
-    let codes = classes_in(set)?;
-    if codes.first() != Some(&0) {
-        return Err("the set is not rooted".to_string());
-    }
-    descriptors_from_midi_codes(&codes)[0]
+    descriptors_from_midi_codes(&rooted_classes_in(set)?)[0]
         .strip_prefix('C')
         .map(str::to_string)
         .ok_or("the descriptor does not begin with C".to_string())
@@ -94,6 +91,11 @@ fn candidates(list: &[i64]) -> Answer {
     let (codes, behind) = counted(list)?;
     end_of(behind)?;
     Ok(descriptors_from_midi_codes(&bytes(codes)?).join("\t"))
+}
+
+fn tones(root: i64, set: i64) -> Answer {
+    let set = pc_set(&rooted_classes_in(set)?);
+    tones::tones(below(12, root)? as u8, naturals_and_flats(), set)
 }
 
 fn get_note(from: Note, semitones: i64, degree: i64) -> Answer {
@@ -133,11 +135,15 @@ fn note_text(note: Note) -> String {
 /// Any note of the class will do: voicings see a note through `to_semitone` alone.
 fn note_of_class(class: i64) -> Result<Note, String> {
     let class = below(12, class)? as u8;
+    naturals_and_flats()
+        .find(|note| note.to_semitone() == class)
+        .ok_or(format!("no note of class {class}"))
+}
+
+fn naturals_and_flats() -> impl Iterator<Item = Note> {
     (0..7)
         .flat_map(|letter| [note(letter, 0), note(letter, -1)])
         .flatten()
-        .find(|note| note.to_semitone() == class)
-        .ok_or(format!("no note of class {class}"))
 }
 
 fn interval(number: &i64) -> Result<Interval, String> {
@@ -149,43 +155,16 @@ fn classes_in(set: i64) -> Result<Vec<u8>, String> {
     Ok((0..12).filter(|class| set >> class & 1 == 1).collect())
 }
 
-/// A count, that many numbers, and what stands behind them.
-fn counted(numbers: &[i64]) -> Result<(&[i64], &[i64]), String> {
-    let (count, rest) = numbers.split_first().ok_or("a count is missing")?;
-    usize::try_from(*count)
-        .ok()
-        .and_then(|count| rest.split_at_checked(count))
-        .ok_or(format!("fewer than {count} numbers"))
-}
-
-fn end_of(numbers: &[i64]) -> Result<(), String> {
-    match numbers {
-        [] => Ok(()),
-        _ => Err("numbers left over".to_string()),
+fn rooted_classes_in(set: i64) -> Result<Vec<u8>, String> {
+    let classes = classes_in(set)?;
+    match classes.first() {
+        Some(0) => Ok(classes),
+        _ => Err("the set is not rooted".to_string()),
     }
 }
 
-fn unless(none: i64, number: i64) -> Option<i64> {
-    (number != none).then_some(number)
-}
-
-fn below(limit: usize, number: i64) -> Result<usize, String> {
-    usize::try_from(number)
-        .ok()
-        .filter(|number| *number < limit)
-        .ok_or(format!("{number} is not below {limit}"))
-}
-
-fn byte(number: i64) -> Result<u8, String> {
-    below(256, number).map(|number| number as u8)
-}
-
-fn bytes(numbers: &[i64]) -> Result<Vec<u8>, String> {
-    numbers.iter().map(|&number| byte(number)).collect()
-}
-
-fn number(word: &str) -> Result<i64, String> {
-    word.parse().map_err(|_| format!("`{word}` is no number"))
+fn pc_set(classes: &[u8]) -> PcSet {
+    classes.iter().map(|&at| CLASSES[at as usize]).collect()
 }
 
 // The numbering of intervals in requests is the declaration's own.

@@ -3,7 +3,7 @@
 --     left, right, both                the parts of a joint test
 --     is-true, is-false, said, denied  from a test that passes or fails to its value, and back
 --     all, at        a test of one number
---     same, same→eq  two lists are the same
+--     same→eq, eq→same  two texts that are the same are equal, and the other way
 use mathlib.Core.Path.{_≡_, refl, sym, subst, ap₂}
 use mathlib.Core.Bool.{Bool, true, false, not, _&&_}
 use mathlib.Core.Logic.{⊎-elim}
@@ -11,6 +11,8 @@ use mathlib.Core.List.{List, [], _∷_}
 use Prim.Native.Nat.{ℕ, zero, suc, _<_}
 use native.Mathlib.Nat.{eq-or-lt-of-le, le-of-suc-le-suc, not-suc-le-zero}
 use lib.Dec.{T, eqb, eqb→eq}
+use borrow.Author.Tests.{eq-eqb}
+use Rattle.answer.specs.Words.{same}
 
 pub left : (a b : Bool) → T (a && b) → T a
 left true b t = tt
@@ -50,15 +52,14 @@ at f (suc n) t k h =
     (λ l. at f n (right (f n) (all f n) t) k l)
     (eq-or-lt-of-le (le-of-suc-le-suc h))
 
-unfoldable pub same : List ℕ → List ℕ → Bool
-same [] [] = true
-same [] (y ∷ ys) = false
-same (x ∷ xs) [] = false
-same (x ∷ xs) (y ∷ ys) = eqb x y && same xs ys
-
 pub same→eq : (xs ys : List ℕ) → T (same xs ys) → xs ≡ ys
 unfolding same
 same→eq [] [] t = refl
 same→eq [] (y ∷ ys) t = absurd t
 same→eq (x ∷ xs) [] t = absurd t
 same→eq (x ∷ xs) (y ∷ ys) t = ap₂ _∷_ (eqb→eq x y (left (eqb x y) (same xs ys) t)) (same→eq xs ys (right (eqb x y) (same xs ys) t))
+
+pub eq→same : (xs : List ℕ) → same xs xs ≡ true
+unfolding same
+eq→same [] = refl
+eq→same (x ∷ xs) = ap₂ _&&_ (eq-eqb x x refl) (eq→same xs)

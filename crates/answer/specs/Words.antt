@@ -1,5 +1,6 @@
 -- Texts of at most seven bytes as one number each, and how a word is stored.
 --     bytes        a quoted text as the list of its bytes
+--     same         two texts are the same
 --     low          bytes as the digits of a number, the lowest first
 --     packed       a text's word: its bytes from the lowest up, and their number in the eighth
 --     digits       the lowest n bytes of a number, the lowest first
@@ -7,18 +8,24 @@
 --     hasRoom      a buffer has eight bytes at a place
 --     placeAfter   the place behind a word's text
 --     putAt        the buffer with a word's eight bytes at a place
-use mathlib.Core.Bool.{Bool, cond}
+use mathlib.Core.Bool.{Bool, true, false, cond, _&&_}
 use mathlib.Core.List as list
 use mathlib.Core.List.{List, _++_}
 use Prim.Native.Char.{code}
 use Prim.Native.String.{String, [], _∷_}
 use Prim.Native.Nat.{ℕ, zero, suc, _+_, _*_, _/_, _%_, _^_}
-use lib.Dec.{leb}
+use lib.Dec.{eqb, leb}
 use lib.ListN.{length, take, drop}
 
 unfoldable pub bytes : String → List ℕ
 bytes [] = list.[]
 bytes (c ∷ more) = list._∷_ (code c) (bytes more)
+
+unfoldable pub same : List ℕ → List ℕ → Bool
+same list.[] list.[] = true
+same list.[] (list._∷_ b more) = false
+same (list._∷_ a rest) list.[] = false
+same (list._∷_ a rest) (list._∷_ b more) = eqb a b && same rest more
 
 unfoldable pub low : List ℕ → ℕ
 low list.[] = 0

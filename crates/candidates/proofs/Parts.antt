@@ -1,21 +1,13 @@
 -- A text that goes into a part of a buffer, from a place on.
 --     part-adds       it stands behind what stands below the place
---     gives-suffix    what a call for a suffix gives there
 --     part-long       how long such a part is at least
 use mathlib.Core.Path.{_≡_, refl, sym, ap, subst, _∙_}
 use mathlib.Core.List.{List, [], _∷_, _++_, append-assoc}
-use Prim.Native.Nat.{ℕ, _+_, _-_, _%_, _<_, _≤_}
+use Prim.Native.Nat.{ℕ, _+_, _-_, _≤_}
 use native.Mathlib.Omega.{arith}
 use lib.ListN.{length, take, drop, length-take, length-drop}
 use lib.Seq.{length-take-le, take-append-add, take-at}
 use borrow.Rule.Slice.PartMut.{putMid, postOf, midOf}
-use Rattle.answer.specs.Replies.{Reply, text, outputOf, roomAfter}
-use Rattle.answer.specs.declared.output.Output.{Output}
-use Rattle.answer.specs.declared.output.Output.the-variants.{Written}
-use Rattle.answer.proofs.Rooms.{written}
-use Rattle.inference.specs.Suffix.{suffixOf, suffixReply}
-use Rattle.inference.proofs.Replied.{rooted}
-use Rattle.inference.proofs.Short.{suffix-short}
 
 pub part-adds : (xs ys t rest : List ℕ) (a k : ℕ) → a ≤ length xs → ys ≡ t ++ rest → take (a + length t) (putMid a k xs ys) ≡ take a xs ++ t
 part-adds xs ys t rest a k h e =
@@ -23,16 +15,6 @@ part-adds xs ys t rest a k h e =
     ∙ subst (λ (n : ℕ). take (n + length t) (take a xs ++ (t ++ rest ++ postOf a k xs)) ≡ take a xs ++ take (length t) (t ++ rest ++ postOf a k xs)) (length-take-le a xs h)
     (take-append-add (take a xs) (t ++ rest ++ postOf a k xs) (length t))
     ∙ ap (λ (l : List ℕ). take a xs ++ l) (ap (take (length t)) (append-assoc t rest (postOf a k xs)) ∙ take-at t (rest ++ postOf a k xs) (length t) refl)
-
--- a suffix, in a part that is long enough for any
-pub gives-suffix : (set : ℕ) (part left : List ℕ) (r : Output) → set < 4096 → set % 2 ≡ 1 → 64 ≤ length part
-    → (r ≡ outputOf (suffixReply set) part) × (left ≡ roomAfter (suffixReply set) part)
-    → (r ≡ Written (length (suffixOf set))) × (left ≡ suffixOf set ++ drop (length (suffixOf set)) part)
-gives-suffix set part left r small odd long gave =
-    let reply = rooted set (omega arith) odd in
-    let short = suffix-short set small odd in
-    let w = written (suffixOf set) part (omega (arith, short)) in
-    (gave .0 ∙ ap (λ (x : Reply). outputOf x part) reply ∙ sym (w .0), gave .1 ∙ ap (λ (x : Reply). roomAfter x part) reply ∙ sym (w .1))
 
 -- the part of a buffer from a place on
 pub part-long : (xs : List ℕ) (a n : ℕ) → a + n ≤ length xs → n ≤ length (midOf a (length xs - a) xs)

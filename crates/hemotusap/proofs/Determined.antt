@@ -7,6 +7,8 @@ use Rattle.hemotusap.proofs.moves.hemotusap_get_note.Reads as get-note
 use Rattle.hemotusap.proofs.moves.hemotusap_transpose.Reads as transpose
 use Rattle.hemotusap.proofs.names.hemotusap_note_text.Reads as note-text
 use Rattle.hemotusap.proofs.symbols.hemotusap_suffix.Reads as suffix
+use Rattle.hemotusap.proofs.symbols.hemotusap_listing.Reads as listing
+use Rattle.hemotusap.proofs.symbols.hemotusap_tones.Reads as tones
 use Rattle.hemotusap.proofs.symbols.hemotusap_candidates.Reads as candidates
 use Rattle.hemotusap.proofs.symbols.hemotusap_candidate_count.Reads as candidate-count
 
@@ -30,3 +32,9 @@ candidates-decides κs a r r′ s s′ = both
 
 pub candidate-count-decides : Decides candidate-count.Post
 candidate-count-decides κs a r r′ s s′ = determined
+
+pub listing-decides : DecidesWith listing.Post (λ κs s. now (s .1 .0))
+listing-decides κs a r r′ s s′ = both
+
+pub tones-decides : DecidesWith tones.Post (λ κs s. now (s .1 .1 .0))
+tones-decides κs a r r′ s s′ = both

@@ -1,16 +1,21 @@
-// Chord symbols for the host: the suffix of a set, and the candidates of a list of keys.
+// Chord symbols for the host: the suffix of a set, the sets of a suffix, the candidates of a list of keys, spelled tones.
 use crate::host::written;
 use candidates::lines::candidate_count;
 use candidates::lines::candidates;
 use inference::normalize::suffix;
+use listing::search::listing;
+use spelling::tones::tones;
 ghost use mathlib.Core.Path.{_≡_};
 ghost use lib.IntN.{pos};
 ghost use Rattle.answer.specs.Replies.{text, outputOf, roomAfter};
+ghost use Rattle.chord.specs.Intervals.{degreeOf};
 ghost use Rattle.chord.specs.Sets.{classCount};
 ghost use Rattle.inference.specs.Names.{flats};
 ghost use Rattle.inference.specs.Suffix.{suffixReply};
 ghost use Rattle.candidates.specs.Keys.{classSet};
 ghost use Rattle.candidates.specs.Candidates.{candidatesOf};
+ghost use Rattle.listing.specs.Listing.{listingOf};
+ghost use Rattle.spelling.specs.Tones.{tonesReply};
 ghost use Rattle.hemotusap.specs.Host.{outputNumber};
 
 #[no_mangle]
@@ -18,6 +23,20 @@ pub extern "C" fn hemotusap_suffix(set: u32, out: &mut [u8]) -> i64
     ensures { λ r. ⌜ (r ≡ outputNumber (outputOf (suffixReply set) (now (out .entry)))) × (now (out .exit) ≡ roomAfter (suffixReply set) (now (out .entry))) ⌝ }
 {
     written(suffix(set, out))
+}
+
+#[no_mangle]
+pub extern "C" fn hemotusap_listing(name: &[u8], out: &mut [u8]) -> i64
+    ensures { λ r. ⌜ (r ≡ outputNumber (outputOf (text (listingOf (now (name .entry)))) (now (out .entry)))) × (now (out .exit) ≡ roomAfter (text (listingOf (now (name .entry)))) (now (out .entry))) ⌝ }
+{
+    written(listing(name, out))
+}
+
+#[no_mangle]
+pub extern "C" fn hemotusap_tones(root: u32, set: u32, out: &mut [u8]) -> i64
+    ensures { λ r. ⌜ (r ≡ outputNumber (outputOf (tonesReply degreeOf root set) (now (out .entry)))) × (now (out .exit) ≡ roomAfter (tonesReply degreeOf root set) (now (out .entry))) ⌝ }
+{
+    written(tones(root, set, out))
 }
 
 #[no_mangle]

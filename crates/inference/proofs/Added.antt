@@ -10,8 +10,8 @@ use mathlib.Core.List.{List, _++_}
 use Prim.Native.Nat.{ℕ, _*_, _/_, _%_, _-_, _<_}
 use lib.Bits.{bitAnd, bitOr, bitXor}
 use lib.Dec.{eqb, leb}
-use Rattle.answer.specs.Words.{bytes}
-use Rattle.answer.proofs.Tests.{all, same}
+use Rattle.answer.specs.Words.{bytes, same}
+use Rattle.answer.proofs.Tests.{all}
 use Rattle.chord.specs.Sets.{has, hasAll, hasNone, classCount, countBelow}
 use Rattle.chord.specs.Intervals.{intervals, nth, numbered, numberOf}
 use Rattle.chord.specs.Qualities.{qualityOf}

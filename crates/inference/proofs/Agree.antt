@@ -14,7 +14,8 @@ use Rattle.chord.specs.declared.interval.Interval.{Interval}
 use Rattle.chord.specs.declared.quality.ChordQuality.{ChordQuality}
 use Rattle.inference.specs.Intervals.{intervalsOf}
 use Rattle.inference.specs.Parts.{suffixQuality}
-use Rattle.answer.proofs.Tests.{left, right, all, at, same, same→eq}
+use Rattle.answer.specs.Words.{same}
+use Rattle.answer.proofs.Tests.{left, right, all, at, same→eq}
 
 -- x where a is b, else y
 unfoldable pub test : {A : Type 0} → ℕ → ℕ → A → A → A

@@ -8,8 +8,8 @@ use mathlib.Core.List.{List, [], _++_}
 use Prim.Native.Nat.{ℕ, _%_, _^_, _<_}
 use lib.Bits.{bitAnd, bitOr}
 use lib.Dec.{T, ltb, ltb→lt, lit<}
-use Rattle.answer.specs.Words.{bytes}
-use Rattle.answer.proofs.Tests.{left, right, all, same}
+use Rattle.answer.specs.Words.{bytes, same}
+use Rattle.answer.proofs.Tests.{left, right, all}
 use Rattle.chord.specs.Sets.{has, hasAll, hasNone, classCount, countBelow}
 use Rattle.chord.specs.Intervals.{intervals}
 use Rattle.chord.specs.Qualities.{qualityOf}

@@ -1,11 +1,14 @@
--- No suffix of a rooted set is longer than 64 bytes, and none has an end of line: a test at each of the 2,048.
---     suffix-short     the bound
+-- No suffix of a rooted set is longer than 27 bytes, nor than the paper's 64, and none has an end of line: a test at each of
+-- the 2,048.
+--     suffix-reached   the bound that is reached
+--     suffix-short     the paper's
 --     suffix-line      no end of line
 --     suffix-parts     the length of a suffix is that of what stands before the parentheses, and theirs
 use mathlib.Core.Path.{_≡_}
 use mathlib.Core.Bool.{Bool, _&&_}
 use mathlib.Core.List.{List, _++_}
 use Prim.Native.Nat.{ℕ, _+_, _%_, _≤_, _<_}
+use native.Mathlib.Omega.{arith}
 use lib.Dec.{T, eqb, leb, eqb→eq, leb→le}
 use lib.ListN.{length, length-append}
 use Rattle.answer.specs.Words.{bytes}
@@ -18,12 +21,12 @@ use Rattle.inference.specs.Intervals.{among, keep, only, atOnce, third, 
 use Rattle.inference.specs.Parts.{hasThird, withThird, suffixQuality, isSus, within, alterationsOf, sixthAs13, extensionsOf, lastAdd, omitThird, omitFifth}
 use Rattle.inference.specs.Stack.{degreesOf, isDegree, reaches, isStacked, lastOf, modifierOf, isOwn, isAdd, addsOf}
 use Rattle.inference.specs.Heading.{nine, heading, sus}
-use Rattle.inference.specs.Suffix.{worded, addParts, parts, listed, close, parenthesized, suffixOf, longest}
+use Rattle.inference.specs.Suffix.{worded, addParts, parts, listed, close, parenthesized, suffixOf, longest, reached}
 use Rattle.inference.proofs.Agree.{at-rooted}
 
 -- one line of so many bytes
 isLine : List ℕ → Bool
-isLine t = leb (length t) longest && eqb (lineFeeds t) 0
+isLine t = leb (length t) reached && eqb (lineFeeds t) 0
 
 fits : ℕ → Bool
 fits s = isLine (suffixOf s)
@@ -33,13 +36,16 @@ unfolding all fits isLine lineFeeds bytes has hasAll hasNone classCount countBel
 all-fit = at-rooted fits tt
 
 module _ (s : ℕ) (small : s < 4096) (odd : s % 2 ≡ 1) where
-  pub suffix-short : length (suffixOf s) ≤ longest
+  pub suffix-reached : length (suffixOf s) ≤ reached
   unfolding fits isLine
-  suffix-short = leb→le (length (suffixOf s)) longest (left (leb (length (suffixOf s)) longest) (eqb (lineFeeds (suffixOf s)) 0) (all-fit s small odd))
+  suffix-reached = leb→le (length (suffixOf s)) reached (left (leb (length (suffixOf s)) reached) (eqb (lineFeeds (suffixOf s)) 0) (all-fit s small odd))
+
+  pub suffix-short : length (suffixOf s) ≤ longest
+  suffix-short = omega (arith, suffix-reached)
 
   pub suffix-line : lineFeeds (suffixOf s) ≡ 0
   unfolding fits isLine
-  suffix-line = eqb→eq (lineFeeds (suffixOf s)) 0 (right (leb (length (suffixOf s)) longest) (eqb (lineFeeds (suffixOf s)) 0) (all-fit s small odd))
+  suffix-line = eqb→eq (lineFeeds (suffixOf s)) 0 (right (leb (length (suffixOf s)) reached) (eqb (lineFeeds (suffixOf s)) 0) (all-fit s small odd))
 
 pub suffix-parts : (s : ℕ) → length (suffixOf s) ≡ length (heading s ++ sus s) + length (parenthesized (parts s))
 unfolding suffixOf

@@ -8,6 +8,7 @@
 --     parenthesized   the parts in one pair of parentheses; no parts, no parentheses
 --     suffixOf        the suffix of a rooted set
 --     longest         "A suffix has at most 64 bytes; that is to be proved": proofs/Short.antt has the theorem
+--     reached         the most bytes that any has: also proved there
 --     suffixReply     what a call has to give: the suffix, or refusal 1
 use mathlib.Core.Bool.{Bool, true, false, cond, _&&_}
 use mathlib.Core.List.{List, [], _∷_, _++_}
@@ -57,6 +58,9 @@ suffixOf s = heading s ++ sus s ++ parenthesized (parts s)
 
 abbrev pub longest : ℕ
 longest = 64
+
+abbrev pub reached : ℕ
+reached = 27
 
 unfoldable pub suffixReply : ℕ → Reply
 suffixReply s = cond (isRooted s) (text (suffixOf s)) (refuse NotASet)

@@ -9,8 +9,9 @@ use borrow.Author.Needs.{needs}
 use borrow.Rule.Slice.PartMut.{midOf}
 use Rattle.answer.specs.declared.output.Output.the-variants.{Written}
 use Rattle.inference.specs.Suffix.{suffixOf}
+use Rattle.inference.proofs.Replied.{gives-suffix}
 use Rattle.inference.proofs.Short.{suffix-short}
-use Rattle.candidates.proofs.Parts.{part-adds, gives-suffix, part-long}
+use Rattle.candidates.proofs.Parts.{part-adds, part-long}
 use Rattle.candidates.proofs.lines.put_suffix.Statement.{statement}
 use Rattle.candidates.proofs.lines.put_suffix.Tie as tie
 
@@ -21,7 +22,8 @@ module _ (c : tie.After-suffix) where
       (midOf (c .before .before .before .args .at) (length (now (c .before .before .before .args .out)) - c .before .before .before .args .at) (now (c .before .before .before .args .out))))
   given =
       let s = c .before .before .before in
-      gives-suffix (s .args .set) _ _ _ (s .pre .0) (s .pre .1) (part-long (now (s .args .out)) (s .args .at) 64 (s .pre .2)) (c .suffix .ensures)
+      let room = part-long (now (s .args .out)) (s .args .at) 64 (s .pre .2) in
+      gives-suffix (s .args .set) _ _ _ (s .pre .0) (s .pre .1) (omega (arith, room, suffix-short (s .args .set) (s .pre .0) (s .pre .1))) (c .suffix .ensures)
 
 -- how many bytes it wrote
 count-is : (c : tie.After-count) → c .count .given .0 .0 ≡ length (suffixOf (c .before .before .before .before .before .before .before .args .set))

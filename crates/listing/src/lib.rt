@@ -1,0 +1,2 @@
+// From a suffix back to every rooted set that it stands for.
+pub mod search;

@@ -1,0 +1,136 @@
+-- The loop of `put_tones`: where it stands, and what a turn does; and what is given of the row that it writes.
+--     Row          what is written so far, with what is left to write, is the whole
+--     begin        where the loop begins
+--     end          where nothing is left, the whole is written
+--     turn         a turn writes the tone of the first interval that is left, behind a space
+--     row-some     a row of some intervals has a byte
+--     row-long     and at most eight for each interval
+--     given        the row without its first byte is the names joined
+use mathlib.Core.Path.{_≡_, refl, sym, ap, subst, _∙_}
+use mathlib.Core.List.{List, [], _∷_, _++_, append-nil, append-assoc}
+use Prim.Native.Nat.{ℕ, zero, suc, _+_, _*_, _%_, _-_, _^_, _≤_, _<_}
+use native.Mathlib.Omega.{arith}
+use native.Mathlib.Nat.{mod-eq-of-lt, one-mul, not-suc-le-zero}
+use lib.Count.{trailingZeros}
+use lib.Pow.{pow-pos}
+use lib.Dec.{T, leb, leb→le}
+use lib.ListN.{length, take, drop, length-append}
+use Rattle.answer.specs.Words.{bytes, low, packed, placeAfter, putAt}
+use Rattle.answer.specs.Written.{Writes}
+use Rattle.answer.proofs.Digits.{isShort, areBytes}
+use Rattle.answer.proofs.Tests.{left}
+use Rattle.answer.proofs.Writing.{nothing, also, Puts, no-puts, then-put}
+use Rattle.chord.specs.Intervals.{numbered, degreeOf}
+use Rattle.chord.specs.declared.note.Note.{Note}
+use Rattle.chord.specs.declared.interval.Interval.{Interval}
+use Rattle.chord.specs.declared.interval.Numbered.{Numbered}
+use Rattle.chord.specs.declared.interval.Numbered.the-variants.{Is, Nothing}
+use Rattle.inference.specs.Intervals.{intervalsIn}
+use Rattle.inference.proofs.First.{First, first-of, none-in}
+use Rattle.spelling.specs.Tones.{numberedName, names, spaced, joined}
+use Rattle.spelling.proofs.Spelled.{tone-short}
+
+abbrev rowOf : Note → ℕ → List ℕ
+rowOf root set = spaced (names degreeOf root (intervalsIn set))
+
+pub record Row (root : Note) (l₀ : List ℕ) (set : ℕ) (l : List ℕ) (at left : ℕ) : Type 0 where
+  pub done : List ℕ
+  pub wrote : Writes l₀ 0 done at l
+  pub whole : done ++ rowOf root left ≡ rowOf root set
+  pub small : left < 2 ^ 23
+  pub room : at + 8 * length (intervalsIn left) + 8 ≤ length l
+  pub same : length l ≡ length l₀
+
+pub begin : (root : Note) (l : List ℕ) (set : ℕ) → set < 2 ^ 23 → 8 * length (intervalsIn set) + 8 ≤ length l → Row root l set l 0 set
+begin root l set h room = record { done = []; wrote = nothing l 0; whole = refl; small = h; room = omega (arith, room); same = refl }
+
+pub numbered-short : (root : Note) (m : Numbered) → T (isShort (numberedName degreeOf root m))
+unfolding isShort areBytes
+numbered-short root (Is i) = tone-short degreeOf root i
+numbered-short root Nothing = tt
+
+seven : (t : List ℕ) → T (isShort t) → length t ≤ 7
+unfolding isShort
+seven t short = leb→le (length t) 7 (left (leb (length t) 7) (areBytes t) short)
+
+module _ (root : Note) (l₀ : List ℕ) (set : ℕ) (l : List ℕ) (at left : ℕ) (t : Row root l₀ set l at left) where
+  pub end : left ≡ 0 → Writes l₀ 0 (rowOf root set) at l
+  unfolding spaced
+  end e =
+      let none : rowOf root left ≡ [] = rw (e, none-in) in
+      let all : t .done ≡ rowOf root set = sym (append-nil (t .done)) ∙ ap (λ (x : List ℕ). t .done ++ x) (sym none) ∙ t .whole in
+      subst (λ (x : List ℕ). Writes l₀ 0 x at l) all (t .wrote)
+
+  module _ (some : left ≡ 0 → ⊥) where
+    f : First left (trailingZeros 32 left)
+    f = first-of left (let p : 0 < left = omega arith in p) (t .small)
+
+    abbrev name : List ℕ
+    name = numberedName degreeOf root (numbered (trailingZeros 32 left))
+
+    -- what is left to write begins with the first interval's tone
+    split : rowOf root left ≡ (bytes " " ++ name) ++ rowOf root (left - 2 ^ trailingZeros 32 left)
+    unfolding spaced
+    split = rw (f .rest, f .there) (simp append-assoc)
+
+    pub number-small : trailingZeros 32 left < 32
+    number-small = omega (arith, f .within)
+
+    bit : (1 * 2 ^ trailingZeros 32 left) % 2 ^ 32 ≡ 2 ^ trailingZeros 32 left
+    bit = ap (λ (x : ℕ). x % 2 ^ 32) (one-mul (2 ^ trailingZeros 32 left)) ∙ mod-eq-of-lt (omega (arith, f .bit, t .small))
+
+    pub bit-within : (1 * 2 ^ trailingZeros 32 left) % 2 ^ 32 ≤ left
+    bit-within = rw bit (f .bit)
+
+    pub less : left - (1 * 2 ^ trailingZeros 32 left) % 2 ^ 32 < left
+    less = rw bit (omega (arith, f .bit, pow-pos (trailingZeros 32 left)))
+
+    -- a space and the name, from what the two calls told
+    pub puts : (r₁ : ℕ) (l₁ : List ℕ) → (r₁ ≡ placeAfter l at 0x0100000000000020) × (l₁ ≡ putAt l at 0x0100000000000020) → length l₁ ≡ length l
+        → (word r₂ : ℕ) (l₂ : List ℕ) → word ≡ packed name → (r₂ ≡ placeAfter l₁ r₁ word) × (l₂ ≡ putAt l₁ r₁ word) → length l₂ ≡ length l₁
+        → Puts l at (bytes " " ++ name) r₂ l₂
+    unfolding bytes low packed isShort areBytes
+    puts r₁ l₁ told₁ kept₁ word r₂ l₂ e told₂ kept₂ =
+        let long = ap length (f .rest) in
+        let space = then-put (no-puts l at) (bytes " ") tt 0x0100000000000020 r₁ l₁ refl (omega (arith, t .room)) told₁ kept₁ in
+        then-put space name (numbered-short root (numbered (trailingZeros 32 left))) word r₂ l₂ e (omega (arith, t .room, long)) told₂ kept₂
+
+    pub turn : (r : ℕ) (l′ : List ℕ) → Puts l at (bytes " " ++ name) r l′ → Row root l₀ set l′ r (left - (1 * 2 ^ trailingZeros 32 left) % 2 ^ 32)
+    unfolding bytes
+    turn r l′ p =
+        let long = ap length (f .rest) in
+        let short = seven name (numbered-short root (numbered (trailingZeros 32 left))) in
+        rw bit
+        record {
+          done = t .done ++ (bytes " " ++ name);
+          wrote = also (t .wrote) (p .wrote);
+          whole = append-assoc (t .done) (bytes " " ++ name) _ ∙ ap (λ (x : List ℕ). t .done ++ x) (sym split) ∙ t .whole;
+          small = omega (arith, t .small);
+          room = omega (arith, t .room, long, short, p .wrote .place, p .same);
+          same = p .same ∙ t .same;
+        }
+
+pub row-some : (root : Note) (found : List Interval) → 1 ≤ length found → 1 ≤ length (spaced (names degreeOf root found))
+unfolding spaced bytes
+row-some root [] h = h
+row-some root (i ∷ more) h = omega arith
+
+pub row-long : (root : Note) (found : List Interval) → length (spaced (names degreeOf root found)) ≤ 8 * length found
+unfolding spaced bytes
+row-long root [] = omega arith
+row-long root (i ∷ more) =
+    let short = seven _ (tone-short degreeOf root i) in
+    let rest = row-long root more in
+    simp length-append (omega (arith, short, rest))
+
+-- behind the first byte
+tail : (l : List ℕ) (e b : ℕ) (u : List ℕ) → take e l ≡ b ∷ u → take (e - 1) (drop 1 l) ≡ u
+tail l zero b u told = absurd (let n = ap length told in let bottom : ⊥ = omega arith in bottom)
+tail [] (suc e) b u told = absurd (let n = ap length told in let bottom : ⊥ = omega arith in bottom)
+tail (x ∷ xs) (suc e) b u told = let n : suc e - 1 ≡ e = omega arith in ap (λ (k : ℕ). take k xs) n ∙ ap (drop 1) told
+
+pub given : (root : Note) (found : List Interval) (l : List ℕ) (e : ℕ) → 1 ≤ length found → take e l ≡ spaced (names degreeOf root found)
+    → take (e - 1) (drop 1 l) ≡ joined (names degreeOf root found)
+unfolding spaced joined bytes
+given root [] l e some told = absurd (not-suc-le-zero some)
+given root (i ∷ more) l e some told = tail l e 32 _ told

@@ -1,0 +1,18 @@
+-- Paper 01, "Engraver's proof sheet": "tones of 73 on C; 137 on Gb" are `C Eb F#` and `Gb Bbb Db`.
+use mathlib.Core.Path.{_≡_, refl}
+use Rattle.answer.specs.Words.{bytes}
+use Rattle.answer.specs.Replies.{text}
+use Rattle.chord.specs.Sets.{isSet, has, isRooted}
+use Rattle.chord.specs.Intervals.{intervals, degreeOf}
+use Rattle.chord.specs.Notes.{semitone, spelled, getNote}
+use Rattle.chord.specs.NoteText.{letterName, signs, noteName}
+use Rattle.inference.specs.Intervals.{among, keep, only, atOnce, third, fourth, sixth, fifth, setOf, intervalsIn, intervalsOf}
+use Rattle.spelling.specs.Tones.{rootNotes, toneOf, toneName, spaced, joined, tonesOf, tonesReply}
+
+pub tones-of-73-on-C : tonesReply degreeOf 0 73 ≡ text (bytes "C Eb F#")
+unfolding bytes isSet has isRooted intervals semitone spelled getNote letterName signs noteName among keep only atOnce third fourth sixth fifth setOf intervalsIn intervalsOf rootNotes toneOf toneName spaced joined tonesOf tonesReply
+tones-of-73-on-C = refl
+
+pub tones-of-137-on-Gb : tonesReply degreeOf 6 137 ≡ text (bytes "Gb Bbb Db")
+unfolding bytes isSet has isRooted intervals semitone spelled getNote letterName signs noteName among keep only atOnce third fourth sixth fifth setOf intervalsIn intervalsOf rootNotes toneOf toneName spaced joined tonesOf tonesReply
+tones-of-137-on-Gb = refl

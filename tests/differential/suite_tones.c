@@ -1,0 +1,103 @@
+/* tones, by the oracle: every rooted set above every root; bad sets are refused before bad roots,
+   and both before the room is looked at. */
+#include <string.h>
+
+#include "draw.h"
+#include "hemotusap.h"
+#include "length.h"
+#include "suite.h"
+#include "written.h"
+
+/* Of the pairs one in EVERY_ROOM is tried in every room, and those of all classes. */
+enum { ROOTS = 12, SETS = 4096, EVERY_ROOM = 61, LONGEST = 34 };
+
+static int64_t write_tones(const struct call *call, uint8_t *out)
+{
+    return hemotusap_tones((uint32_t)call->numbers[0], (uint32_t)call->numbers[1], out,
+                           (size_t)call->room);
+}
+
+/* The exact room, one less, and a drawn one. */
+static void in_some_rooms(struct run *run, const struct call *call, const char *answer,
+                          uint64_t state)
+{
+    size_t length = strlen(answer);
+    const size_t rooms[] = {length, length - 1, draw_below(&state, 2 * LONGEST)};
+    if (length == 0 || length > LONGEST)
+        fail("the oracle's line `%s` is of no length that tones have", answer);
+    for (unsigned at = 0; at < LENGTH(rooms); at++)
+        expect_written_in(run, call, write_tones, (const uint8_t *)answer, length, rooms[at]);
+}
+
+static void one_pair(struct run *run, uint32_t root, uint32_t set)
+{
+    uint32_t number = root * SETS + set;
+    const struct call *call = CALL("tones", root, set);
+    const char *answer = oracle_answer(run, call);
+    if (answer == NULL)
+        return;
+    in_some_rooms(run, call, answer, draws_of(run->seed, number));
+    if (number % EVERY_ROOM == 0 || set == SETS - 1)
+        expect_written(run, call, write_tones, (const uint8_t *)answer, strlen(answer));
+}
+
+static void every_pair(struct run *run)
+{
+    for (uint32_t root = 0; root < ROOTS; root++)
+        for (uint32_t set = 1; set < SETS; set += 2)
+            one_pair(run, root, set);
+}
+
+static void refused(struct run *run, int64_t root, int64_t set, enum refusal want)
+{
+    static const size_t rooms[] = {0, 1, LONGEST};
+    for (unsigned at = 0; at < LENGTH(rooms); at++)
+        expect_unwritten_in(run, CALL("tones", root, set), write_tones, want, rooms[at]);
+}
+
+/* Around each power of two, so that a number cut to fewer bits shows. */
+static void numbers_above(struct run *run, int64_t least,
+                          void (*refuse)(struct run *run, int64_t number))
+{
+    for (int bit = 0; bit <= 32; bit++)
+        for (int64_t near = -1; near <= 1; near++) {
+            int64_t number = (INT64_C(1) << bit) + near;
+            if (number >= least && number <= UINT32_MAX)
+                refuse(run, number);
+        }
+}
+
+/* A root that is bad too changes nothing. */
+static void refuse_set(struct run *run, int64_t set)
+{
+    static const int64_t roots[] = {0, ROOTS - 1, ROOTS, 255, UINT32_MAX};
+    for (unsigned at = 0; at < LENGTH(roots); at++)
+        refused(run, roots[at], set, BAD_SET);
+}
+
+static void refuse_root(struct run *run, int64_t root)
+{
+    static const int64_t sets[] = {1, 145, SETS - 1};
+    for (unsigned at = 0; at < LENGTH(sets); at++)
+        refused(run, root, sets[at], BAD_CLASS);
+}
+
+static void stated_text(struct run *run, int64_t root, int64_t set, const char *text)
+{
+    expect_written(run, CALL("tones", root, set), write_tones, (const uint8_t *)text,
+                   strlen(text));
+}
+
+static void stated_tones(struct run *run)
+{
+    stated_text(run, 0, 73, "C Eb F#");
+    stated_text(run, 6, 137, "Gb Bbb Db");
+    for (int64_t set = 0; set < SETS; set += 2)
+        refuse_set(run, set);
+    numbers_above(run, SETS, refuse_set);
+    for (int64_t root = ROOTS; root < 256; root++)
+        refuse_root(run, root);
+    numbers_above(run, 256, refuse_root);
+}
+
+const struct suite tones_suite = {"tones", every_pair, stated_tones};
