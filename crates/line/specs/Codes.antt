@@ -20,17 +20,17 @@ pub data Line : Type 0 where
   holds : List ℕ → Line
 
 -- the bytes `0`, `9` and space
-abbrev pub zero₀ : ℕ
-zero₀ = 48
+abbrev pub digit0 : ℕ
+digit0 = 48
 
-abbrev pub nine₉ : ℕ
-nine₉ = 57
+abbrev pub digit9 : ℕ
+digit9 = 57
 
 abbrev pub space : ℕ
 space = 32
 
 abbrev pub isDigit : ℕ → Bool
-isDigit byte = leb zero₀ byte && leb byte nine₉
+isDigit byte = leb digit0 byte && leb byte digit9
 
 abbrev pub isEnded : ℕ → ℕ → Bool
 isEnded value digits = ltb 0 digits && leb value 255
@@ -42,7 +42,7 @@ withCode code (holds codes) = holds (code ∷ codes)
 unfoldable pub reading : ℕ → ℕ → List ℕ → Line
 reading value digits [] = cond (isEnded value digits) (holds (value ∷ [])) bad
 reading value digits (byte ∷ more) =
-    cond (isDigit byte && ltb digits 3) (reading (value * 10 + (byte - zero₀)) (digits + 1) more)
+    cond (isDigit byte && ltb digits 3) (reading (value * 10 + (byte - digit0)) (digits + 1) more)
     (cond (eqb byte space && isEnded value digits) (withCode value (reading 0 0 more)) bad)
 
 unfoldable pub codesIn : List ℕ → Line
