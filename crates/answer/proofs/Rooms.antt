@@ -1,10 +1,11 @@
 -- What a reply comes to where its text has room, and where it has none.
 --     Answered      an answer and a room at exit are what a reply and the room at entry say
 --     refused       a refusal leaves the room as it was
+--     refused-by    the same, where a refusal is what a call has to give
 --     no-room       a text longer than the room: refusal 7
 --     written       a text that has room stands at the front
 --     copied        a turn of the loop that writes it
-use mathlib.Core.Path.{_≡_, refl, sym, ap, _∙_}
+use mathlib.Core.Path.{_≡_, refl, sym, ap, subst, _∙_}
 use mathlib.Core.Bool.{Bool, cond}
 use mathlib.Core.List.{List, _++_}
 use Prim.Native.Nat.{ℕ, _+_, _≤_, _<_}
@@ -25,6 +26,9 @@ Answered reply room r left = (r ≡ outputOf reply room) × (left ≡ roomAfter 
 pub refused : (why : Refusal) (room : List ℕ) → Answered (refuse why) room (Refused why) room
 unfolding outputOf roomAfter
 refused why room = (refl, refl)
+
+pub refused-by : (why : Refusal) (reply : Reply) (room : List ℕ) → reply ≡ refuse why → Answered reply room (Refused why) room
+refused-by why reply room e = subst (λ (x : Reply). Answered x room (Refused why) room) (sym e) (refused why room)
 
 pub no-room : (t room : List ℕ) → length room < length t → Answered (text t) room (Refused NoRoom) room
 unfolding outputOf roomAfter

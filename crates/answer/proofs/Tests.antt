@@ -2,16 +2,17 @@
 -- test that is computed, and these laws.
 --     left, right, both                the parts of a joint test
 --     is-true, is-false, said, denied  from a test that passes or fails to its value, and back
+--     refused, admitted                what a negated test in the code told
 --     all, at        a test of one number
 --     same→eq, eq→same  two texts that are the same are equal, and the other way
-use mathlib.Core.Path.{_≡_, refl, sym, subst, ap₂}
+use mathlib.Core.Path.{_≡_, refl, sym, subst, ap₂, _∙_}
 use mathlib.Core.Bool.{Bool, true, false, not, _&&_}
 use mathlib.Core.Logic.{⊎-elim}
 use mathlib.Core.List.{List, [], _∷_}
 use Prim.Native.Nat.{ℕ, zero, suc, _<_}
 use native.Mathlib.Nat.{eq-or-lt-of-le, le-of-suc-le-suc, not-suc-le-zero}
 use lib.Dec.{T, eqb, eqb→eq}
-use borrow.Author.Tests.{eq-eqb}
+use borrow.Author.Tests.{eq-eqb, not-true, not-false}
 use Rattle.answer.specs.Words.{same}
 
 pub left : (a b : Bool) → T (a && b) → T a
@@ -39,6 +40,12 @@ said b e = subst T (sym e) tt
 
 pub denied : (b : Bool) → b ≡ false → T (not b)
 denied b e = subst (λ (t : Bool). T (not t)) (sym e) tt
+
+pub refused : (r b : Bool) → r ≡ b → not r ≡ true → b ≡ false
+refused r b e t = sym e ∙ not-true r t
+
+pub admitted : (r b : Bool) → r ≡ b → not r ≡ false → b ≡ true
+admitted r b e t = sym e ∙ not-false r t
 
 unfoldable pub all : (ℕ → Bool) → ℕ → Bool
 all f zero = true

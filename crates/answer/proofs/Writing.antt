@@ -1,15 +1,19 @@
 -- Laws of writing into a buffer.
 --     nothing     a text of no bytes is written by leaving all as it is
 --     also        a text written behind another makes their sum
+--     same-text   what was written, by another name
+--     counted, within     what was put first: its count of bytes, and that the buffer has them
+--     stored      bytes stored one behind the other from a place on
 --     put-short   a short text's word, put at a place that has room
 --     Puts        a row of words put behind one another, in a buffer that keeps its length
-use mathlib.Core.Path.{_≡_, refl, sym, ap, _∙_}
+use mathlib.Core.Path.{_≡_, refl, sym, ap, subst, _∙_}
 use mathlib.Core.List.{List, [], _++_, append-nil, append-assoc}
 use Prim.Native.Nat.{ℕ, _+_, _≤_}
 use native.Mathlib.Omega.{arith}
-use native.Mathlib.Nat.{add-zero, add-assoc}
+use native.Mathlib.Nat.{add-zero, add-assoc, zero-add}
 use lib.Dec.{T}
-use lib.ListN.{length, take, length-append}
+use lib.ListN.{length, take, drop, length-append, length-take}
+use lib.Seq.{sets, sets-eq, length-take-le, take-at}
 use Rattle.answer.specs.Words.{packed, placeAfter, putAt}
 use Rattle.answer.specs.Written.{Writes}
 use Rattle.answer.proofs.Digits.{isShort, place-text, put-text}
@@ -23,6 +27,21 @@ also {l} {l′} {l″} {at} {r} {r′} {t} {u} w v =
       place = v .place ∙ ap (λ (n : ℕ). n + length u) (w .place) ∙ simp (length-append, add-assoc);
       added = v .added ∙ ap (λ (x : List ℕ). x ++ u) (w .added) ∙ append-assoc (take at l) t u;
     }
+
+pub same-text : {l l′ : List ℕ} {at r : ℕ} {t u : List ℕ} → t ≡ u → Writes l at t r l′ → Writes l at u r l′
+same-text {l} {l′} {at} {r} e w = subst (λ (x : List ℕ). Writes l at x r l′) e w
+
+pub counted : {l₀ l t : List ℕ} {r : ℕ} → Writes l₀ 0 t r l → r ≡ length (take r l)
+counted w = w .place ∙ zero-add _ ∙ ap length (sym (w .added))
+
+pub within : {l₀ l t : List ℕ} {r : ℕ} → Writes l₀ 0 t r l → r ≤ length l
+within {l₀} {l} {t} {r} w = omega (arith, counted w, length-take r l)
+
+pub stored : (t l : List ℕ) (at : ℕ) → at + length t ≤ length l → Writes l at t (at + length t) (sets l at t)
+stored t l at room =
+    let whole : length (take at l) ≡ at = length-take-le at l (omega arith) in
+    let front : length (take at l ++ t) ≡ at + length t = length-append (take at l) t ∙ ap (λ (n : ℕ). n + length t) whole in
+    record { place = refl; added = ap (take (at + length t)) (sets-eq t l at room) ∙ take-at (take at l ++ t) (drop (at + length t) l) (at + length t) front }
 
 pub put-short : (t : List ℕ) → T (isShort t) → (l : List ℕ) (at word r : ℕ) (l′ : List ℕ) → word ≡ packed t → at + 8 ≤ length l
     → (r ≡ placeAfter l at word) × (l′ ≡ putAt l at word) → Writes l at t r l′

@@ -1,6 +1,5 @@
 -- Laws of notes and their moves.
 --     letter-less, is-count, height-is     what a note's letter and count are known to be
---     refused, admitted                    what a negated test of a note told
 --     in-height     a number is a count where its height is below 13
 --     sounds        the semitone of a note, by its height
 --     reaches       the accidental between a pitch and a letter, by its height
@@ -15,7 +14,7 @@ use lib.Dec.{T, leb, ltb, eqb, leb→le, eqb→eq, leb·suc-suc}
 use lib.IntN.{ℤ, pos, negsuc, _+ℤ_, _-ℤ_}
 use lib.ListN.{getD}
 use lib.Signed.{leZ}
-use borrow.Author.Tests.{lt-ltb, le-ltb, not-true, not-false}
+use borrow.Author.Tests.{lt-ltb, le-ltb}
 use Rattle.answer.proofs.Tests.{left, right, is-true, is-false, said, all, at}
 use Rattle.chord.specs.Notes.{isCount, countOf, isNote, natural, mod12, semitone, nearest}
 use Rattle.chord.specs.Heights.{heightOf}
@@ -31,12 +30,6 @@ module _ (n : Note) (note : isNote n ≡ true) where
 
   pub height-is : heightOf (countOf (n .accidental)) < 13
   height-is = height-less _ is-count
-
-pub refused : (r b : Bool) → r ≡ b → not r ≡ true → b ≡ false
-refused r b e t = sym e ∙ not-true r t
-
-pub admitted : (r b : Bool) → r ≡ b → not r ≡ false → b ≡ true
-admitted r b e t = sym e ∙ not-false r t
 
 pub in-height : (z : ℤ) → ltb (heightOf z) 13 ≡ isCount z
 in-height z = by-case (isCount z) refl

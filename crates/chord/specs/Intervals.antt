@@ -6,11 +6,13 @@
 --     Tells         a row of the code's table has that, with how the interval is written as a word
 --     numericOf     the number of a degree
 --     classOf       the pitch class of an interval
+--     setOf         intervals as a set, a number with the bit of each one's number
 use mathlib.Core.Path.{_≡_}
-use mathlib.Core.List.{List, [], _∷_}
+use mathlib.Core.List.{List, [], _∷_, map}
 use Prim.Native.Nat.{ℕ, zero, suc, _%_}
 use Prim.Native.String.{String}
 use Rattle.answer.specs.Words.{bytes, packed}
+use Rattle.chord.specs.Sets.{bits}
 use Rattle.chord.specs.declared.interval.Interval.{Interval}
 use Rattle.chord.specs.declared.interval.Interval.the-variants.{Unison, MinorSecond, MajorSecond, MinorThird, MajorThird, PerfectFourth, AugmentedFourth, DiminishedFifth, PerfectFifth, AugmentedFifth, MinorSixth, MajorSixth, DiminishedSeventh, MinorSeventh, MajorSeventh, Octave, FlatNinth, Ninth, SharpNinth, Eleventh, SharpEleventh, FlatThirteenth, Thirteenth}
 use Rattle.chord.specs.declared.interval.IntDegree.{IntDegree}
@@ -95,6 +97,9 @@ pub record Tells (i : Interval) (row : About) : Type 0 where
 
 abbrev pub classOf : Interval → ℕ
 classOf i = semitonesOf i % 12
+
+unfoldable pub setOf : List Interval → ℕ
+setOf found = bits (map numberOf found)
 
 abbrev pub numericOf : IntDegree → ℕ
 numericOf Root = 1

@@ -7,7 +7,8 @@
 --     hasNone       none of some classes is in the set
 --     classCount    how many classes are in the set
 --     bits          the set of the numbers of a list
-use mathlib.Core.Bool.{Bool, true, not, cond, _&&_}
+--     isIn          a number is in a list
+use mathlib.Core.Bool.{Bool, true, false, not, cond, _&&_, _||_}
 use mathlib.Core.List.{List, [], _∷_}
 use Prim.Native.Nat.{ℕ, zero, suc, _+_, _/_, _%_, _^_}
 use lib.Dec.{eqb, leb}
@@ -40,3 +41,7 @@ classCount s = countBelow 12 s
 abbrev pub bits : List ℕ → ℕ
 bits [] = 0
 bits (k ∷ more) = 2 ^ k + bits more
+
+unfoldable pub isIn : ℕ → List ℕ → Bool
+isIn n [] = false
+isIn n (x ∷ more) = eqb n x || isIn n more

@@ -13,7 +13,7 @@ use lib.Dec.{eqb, leb}
 use Rattle.answer.specs.Words.{bytes, same}
 use Rattle.answer.proofs.Tests.{all}
 use Rattle.chord.specs.Sets.{has, hasAll, hasNone, classCount, countBelow}
-use Rattle.chord.specs.Intervals.{intervals, nth, numbered, numberOf}
+use Rattle.chord.specs.Intervals.{intervals, nth, numbered, numberOf, setOf}
 use Rattle.chord.specs.Qualities.{qualityOf}
 use Rattle.chord.specs.Masks.{ownBits}
 use Rattle.chord.specs.declared.interval.Interval.{Interval}
@@ -21,7 +21,7 @@ use Rattle.chord.specs.declared.quality.ChordQuality.{ChordQuality}
 use Rattle.chord.specs.declared.interval.Interval.the-variants.{Unison, MinorSecond, MajorSecond, MinorThird, MajorThird, PerfectFourth, AugmentedFourth, DiminishedFifth, PerfectFifth, AugmentedFifth, MinorSixth, MajorSixth, DiminishedSeventh, MinorSeventh, MajorSeventh, Octave, FlatNinth, Ninth, SharpNinth, Eleventh, SharpEleventh, FlatThirteenth, Thirteenth}
 use Rattle.chord.specs.declared.interval.Numbered.{Numbered}
 use Rattle.chord.specs.declared.interval.Numbered.the-variants.{Is, Nothing}
-use Rattle.inference.specs.Intervals.{among, keep, only, atOnce, third, fourth, sixth, fifth, setOf, intervalsIn, intervalsOf}
+use Rattle.inference.specs.Intervals.{among, keep, only, atOnce, third, fourth, sixth, fifth, intervalsIn, intervalsOf}
 use Rattle.inference.specs.Parts.{hasThird, withThird, suffixQuality, isSus, within, alterationsOf, sixthAs13, extensionsOf, lastAdd}
 use Rattle.inference.specs.Stack.{degreesOf, isDegree, reaches, isStacked, isDiminished, lastOf, modifierOf, isOwn, isAdd, addsOf}
 use Rattle.inference.specs.Heading.{isSixth, nine}

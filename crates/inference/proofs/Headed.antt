@@ -7,8 +7,9 @@ use mathlib.Core.List.{[], _++_}
 use lib.Dec.{eqb}
 use Rattle.answer.specs.Words.{bytes}
 use Rattle.chord.specs.declared.interval.Interval.the-variants.{Ninth}
+use Rattle.chord.specs.Intervals.{setOf}
 use Rattle.chord.specs.declared.interval.Numbered.{Numbered}
-use Rattle.inference.specs.Intervals.{only, setOf, intervalsOf}
+use Rattle.inference.specs.Intervals.{only, intervalsOf}
 use Rattle.inference.specs.Parts.{isSus}
 use Rattle.inference.specs.Stack.{modifierOf, addsOf}
 use Rattle.inference.specs.Heading.{wording, modified, nine, heading, sus}

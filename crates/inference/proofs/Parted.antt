@@ -11,10 +11,10 @@ use lib.Dec.{T, ltb, ltb→lt, lit<}
 use Rattle.answer.specs.Words.{bytes, same}
 use Rattle.answer.proofs.Tests.{left, right, all}
 use Rattle.chord.specs.Sets.{has, hasAll, hasNone, classCount, countBelow}
-use Rattle.chord.specs.Intervals.{intervals}
+use Rattle.chord.specs.Intervals.{intervals, setOf}
 use Rattle.chord.specs.Qualities.{qualityOf}
 use Rattle.chord.specs.declared.interval.Interval.the-variants.{MajorThird, DiminishedFifth, PerfectFifth, AugmentedFifth, Ninth, FlatThirteenth}
-use Rattle.inference.specs.Intervals.{among, keep, only, atOnce, third, fourth, sixth, fifth, setOf, intervalsIn, intervalsOf}
+use Rattle.inference.specs.Intervals.{among, keep, only, atOnce, third, fourth, sixth, fifth, intervalsIn, intervalsOf}
 use Rattle.inference.specs.Parts.{hasThird, withThird, suffixQuality, isSus, within, alterationsOf, sixthAs13, extensionsOf, lastAdd, omitThird, omitFifth}
 use Rattle.inference.specs.Stack.{degreesOf, isDegree, reaches, isStacked, isOwn, isAdd, addsOf}
 use Rattle.inference.specs.Suffix.{worded}

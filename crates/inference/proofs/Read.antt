@@ -11,12 +11,12 @@ use lib.Bits.{bitAnd, bitOr}
 use lib.Dec.{eqb}
 use Rattle.answer.proofs.Tests.{all}
 use Rattle.chord.specs.Sets.{has, hasAll, hasNone, classCount, countBelow, bits}
-use Rattle.chord.specs.Intervals.{intervals, numericOf}
+use Rattle.chord.specs.Intervals.{intervals, numericOf, setOf}
 use Rattle.chord.specs.Qualities.{qualityOf}
 use Rattle.chord.specs.Masks.{alterationBits, extensionBits, stackBits}
 use Rattle.chord.specs.declared.interval.Interval.{Interval}
 use Rattle.chord.specs.declared.quality.ChordQuality.{ChordQuality}
-use Rattle.inference.specs.Intervals.{among, keep, only, atOnce, third, fourth, sixth, fifth, setOf, intervalsIn, intervalsOf}
+use Rattle.inference.specs.Intervals.{among, keep, only, atOnce, third, fourth, sixth, fifth, intervalsIn, intervalsOf}
 use Rattle.inference.specs.Parts.{hasThird, withThird, suffixQuality, isSus, within, alterationsOf, sixthAs13, extensionsOf}
 use Rattle.inference.specs.Stack.{ownSeventh, degreesOf, isDegree, reaches}
 use Rattle.inference.specs.Heading.{nine}

@@ -6,11 +6,11 @@ use Prim.Native.Nat.{ℕ, _^_, _<_}
 use lib.Bits.{bitAnd, bitOr, bitXor, xor-lt}
 use Rattle.answer.specs.Words.{bytes}
 use Rattle.chord.specs.Sets.{bits}
-use Rattle.chord.specs.Intervals.{numericOf}
+use Rattle.chord.specs.Intervals.{numericOf, setOf}
 use Rattle.chord.specs.Masks.{ownBits, alterationBits, extensionBits, stackBits}
 use Rattle.chord.specs.declared.interval.Interval.the-variants.{Ninth}
 use Rattle.chord.specs.declared.interval.Numbered.{Numbered}
-use Rattle.inference.specs.Intervals.{only, setOf, intervalsIn, intervalsOf}
+use Rattle.inference.specs.Intervals.{only, intervalsIn, intervalsOf}
 use Rattle.inference.specs.Parts.{suffixQuality, isSus, alterationsOf, extensionsOf, lastAdd, omitThird, omitFifth}
 use Rattle.inference.specs.Stack.{ownSeventh, isDiminished, modifierOf, addsOf}
 use Rattle.inference.specs.Heading.{isSixth, nine}

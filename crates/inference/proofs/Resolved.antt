@@ -4,8 +4,8 @@ use Prim.Native.Nat.{ℕ, _*_, _/_, _%_, _<_}
 use lib.Bits.{bitAnd, bitOr}
 use Rattle.answer.proofs.Tests.{all}
 use Rattle.chord.specs.Sets.{has}
-use Rattle.chord.specs.Intervals.{intervals}
-use Rattle.inference.specs.Intervals.{among, keep, only, atOnce, third, fourth, sixth, fifth, setOf, intervalsIn, intervalsOf}
+use Rattle.chord.specs.Intervals.{intervals, setOf}
+use Rattle.inference.specs.Intervals.{among, keep, only, atOnce, third, fourth, sixth, fifth, intervalsIn, intervalsOf}
 use Rattle.inference.proofs.Agree.{test, agree}
 
 abbrev onceBits : ℕ → ℕ

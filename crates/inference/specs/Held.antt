@@ -11,13 +11,13 @@ use mathlib.Core.Bool.{Bool, cond, not}
 use mathlib.Core.List.{List, [], _∷_, _++_}
 use Prim.Native.Nat.{ℕ, _%_, _<_}
 use Rattle.answer.specs.Words.{bytes}
-use Rattle.chord.specs.Intervals.{degreeOf}
+use Rattle.chord.specs.Intervals.{degreeOf, setOf}
 use Rattle.chord.specs.Masks.{maskOf}
 use Rattle.chord.specs.declared.interval.Interval.{Interval}
 use Rattle.chord.specs.declared.interval.Interval.the-variants.{Ninth, Eleventh, Thirteenth}
 use Rattle.chord.specs.declared.interval.Numbered.{Numbered}
 use Rattle.chord.specs.declared.quality.ChordQuality.{ChordQuality}
-use Rattle.inference.specs.Intervals.{keep, setOf, intervalsIn, intervalsOf}
+use Rattle.inference.specs.Intervals.{keep, intervalsIn, intervalsOf}
 use Rattle.inference.specs.Parts.{suffixQuality, alterationsOf, extensionsOf}
 use Rattle.inference.specs.Stack.{degreesOf, reaches, modifierOf, addsOf}
 use Rattle.inference.specs.Heading.{orElse}

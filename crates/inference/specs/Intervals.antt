@@ -7,15 +7,14 @@
 --     fourth         what class 6 becomes
 --     sixth          what class 9 becomes
 --     fifth          "Last 8"
---     setOf          intervals as a set, a number with the bit of each one's number
 --     intervalsIn    the intervals of such a set: "Interval sets are visited in rising order"
 --     intervalsOf    the intervals of a set of classes
 use mathlib.Core.Bool.{Bool, false, cond, _&&_, _||_}
-use mathlib.Core.List.{List, [], _∷_, _++_, map}
+use mathlib.Core.List.{List, [], _∷_, _++_}
 use Prim.Native.Nat.{ℕ}
 use lib.Dec.{eqb}
-use Rattle.chord.specs.Sets.{has, bits}
-use Rattle.chord.specs.Intervals.{intervals, numberOf}
+use Rattle.chord.specs.Sets.{has}
+use Rattle.chord.specs.Intervals.{intervals, numberOf, setOf}
 use Rattle.chord.specs.declared.interval.Interval.{Interval}
 use Rattle.chord.specs.declared.interval.Interval.the-variants.{Unison, MinorThird, MajorThird, DiminishedFifth, PerfectFifth, AugmentedFifth, MinorSixth, MajorSixth, DiminishedSeventh, MinorSeventh, MajorSeventh, FlatNinth, Ninth, SharpNinth, Eleventh, SharpEleventh, FlatThirteenth, Thirteenth}
 
@@ -57,9 +56,6 @@ fifth s =
     (cond (among MinorSeventh (atOnce s) || among DiminishedSeventh (sixth s) || among MajorSixth (sixth s)) FlatThirteenth
     (cond (among MajorThird (atOnce s)) AugmentedFifth
     MinorSixth))
-
-unfoldable pub setOf : List Interval → ℕ
-setOf found = bits (map numberOf found)
 
 unfoldable pub intervalsIn : ℕ → List Interval
 intervalsIn set = keep (λ i. has set (numberOf i)) intervals

@@ -19,8 +19,9 @@ use chord::interval::SHARP_NINTH;
 use chord::interval::THIRTEENTH;
 use chord::interval::UNISON;
 ghost use mathlib.Core.Path.{_≡_};
+ghost use Rattle.chord.specs.Intervals.{setOf};
 ghost use Prim.Native.Nat.{_<_, _%_};
-ghost use Rattle.inference.specs.Intervals.{setOf, atOnce, third, fourth, sixth, fifth, intervalsOf};
+ghost use Rattle.inference.specs.Intervals.{atOnce, third, fourth, sixth, fifth, intervalsOf};
 
 pub(crate) const CLASS_1: u32 = 1 << 1;
 

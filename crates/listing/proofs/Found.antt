@@ -4,7 +4,7 @@
 --     found-next     a set that is not, or is, one of the text's
 --     all-found      at the end
 --     puts-set       a set's two bytes, as the code stores them
-use mathlib.Core.Path.{_≡_, refl, sym, ap, _∙_}
+use mathlib.Core.Path.{_≡_, refl, sym, ap, subst, _∙_}
 use mathlib.Core.Bool.{Bool, true, false, cond}
 use mathlib.Core.List.{List, [], _∷_, _++_, append-nil, append-assoc}
 use Prim.Native.Nat.{ℕ, suc, _+_, _-_, _*_, _/_, _%_, _<_, _≤_}
@@ -12,9 +12,10 @@ use native.Mathlib.Nat.{zero-add}
 use native.Mathlib.Numerals.{unary-clauses}
 use native.Mathlib.Omega.{arith}
 use lib.ListN.{length, take, drop, set, length-append}
-use lib.Seq.{sets, sets-eq, length-take-le, take-append-add, take-append-seam}
+use lib.Seq.{sets, length-take-le, take-append-add, take-append-seam}
 use Rattle.answer.specs.Words.{same}
 use Rattle.answer.specs.Written.{Writes}
+use Rattle.answer.proofs.Writing.{stored}
 use Rattle.inference.specs.Suffix.{suffixOf}
 use Rattle.listing.specs.Listing.{matching, setsOf, inBytes, listingOf}
 
@@ -76,10 +77,4 @@ all-found t l l₀ used f room =
 
 pub puts-set : (l : List ℕ) (at a b : ℕ) → at + 2 ≤ length l → Writes l at (a ∷ b ∷ []) (at + 2) (set (set l at a) (at + 1) b)
 puts-set l at a b room =
-    let two : set (set l at a) (at + 1) b ≡ sets l at (a ∷ b ∷ []) = simp unary-clauses in
-    let stored : set (set l at a) (at + 1) b ≡ take at l ++ (a ∷ b ∷ []) ++ drop (at + 2) l = two ∙ sets-eq (a ∷ b ∷ []) l at room in
-    let size : length (take at l ++ (a ∷ b ∷ [])) ≡ at + 2 = length-append (take at l) (a ∷ b ∷ []) ∙ ap (λ (n : ℕ). n + 2) (length-take-le at l (omega arith)) in
-    record {
-      place = refl;
-      added = ap (take (at + 2)) stored ∙ ap (λ (n : ℕ). take n (take at l ++ (a ∷ b ∷ []) ++ drop (at + 2) l)) (sym size) ∙ take-append-seam (take at l ++ (a ∷ b ∷ [])) (drop (at + 2) l);
-    }
+    subst (Writes l at (a ∷ b ∷ []) (at + 2)) (let two : sets l at (a ∷ b ∷ []) ≡ set (set l at a) (at + 1) b = simp unary-clauses in two) (stored (a ∷ b ∷ []) l at room)

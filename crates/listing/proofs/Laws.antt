@@ -19,10 +19,11 @@ use lib.ListN.{length}
 use borrow.Author.Tests.{eq-eqb, eqb-true, lt-ltb}
 use Rattle.answer.specs.Words.{same}
 use Rattle.answer.proofs.Tests.{said, same→eq, eq→same}
+use Rattle.chord.specs.Sets.{isIn}
 use Rattle.inference.specs.Suffix.{suffixOf, reached}
 use Rattle.inference.proofs.Short.{suffix-reached}
 use Rattle.listing.specs.Listing.{matching, setsOf, inBytes, listingOf}
-use Rattle.listing.specs.Members.{isIn, isAbove, isRising}
+use Rattle.listing.specs.Members.{isAbove, isRising}
 
 -- a member of the sets from k on
 abbrev Member : List ℕ → ℕ → ℕ → ℕ → Type 0

@@ -2,12 +2,12 @@
 use mathlib.Core.Path.{_≡_, ap, ap₂, sym, subst, _∙_}
 use mathlib.Core.List.{List}
 use Prim.Native.Nat.{ℕ, _<_, _≤_}
-use native.Mathlib.Nat.{zero-add}
 use native.Mathlib.Omega.{arith}
-use lib.ListN.{length, take, length-take}
+use lib.ListN.{length, take}
 use denote.Ref.{now}
 use borrow.Author.Needs.{needs}
 use Rattle.answer.specs.Replies.{text, outputOf, roomAfter}
+use Rattle.answer.proofs.Writing.{counted, within}
 use Rattle.inference.specs.Names.{flats}
 use Rattle.candidates.specs.Keys.{classSet, firsts, Finds}
 use Rattle.candidates.specs.Candidates.{Classes, listing, candidatesOf}
@@ -34,9 +34,6 @@ stands c =
     let f = c .before .before .before .before .find .ensures in
     c .put-lines .ensures .added ∙ ap₂ (listing flats) (f .isSet) (f .classes)
 
-counts : (c : tie.After-put-lines) → c .put-lines .result ≡ length (take (c .put-lines .result) (c .put-lines .last .0))
-counts c = c .put-lines .ensures .place ∙ zero-add _ ∙ ap length (sym (c .put-lines .ensures .added))
-
 returns : tie.Need-returns
 returns c = rw (stands (c .before .before .before .before .before .before)) at (c .before .before .give .ensures)
 
@@ -50,8 +47,8 @@ candidates-spec =
     (λ c. search needs)
     (λ c. let f = c .before .before .before .find .ensures in f .size ∙ ap length (sym (f .classes)))
     put-lines-requires
-    (λ c. omega (arith, counts (c .before), length-take (c .before .put-lines .result) (c .before .put-lines .last .0)))
-    (λ c. counts (c .before .before))
+    (λ c. within (c .before .put-lines .ensures))
+    (λ c. counted (c .before .before .put-lines .ensures))
     (λ c κs. search needs)
     (λ c. search needs)
     returns)

@@ -6,8 +6,9 @@ use lib.ListN.{length}
 use denote.Ref.{now}
 use native.Mathlib.Nat.{le-refl}
 use borrow.Author.Needs.{needs}
+use Rattle.chord.specs.Intervals.{setOf}
 use Rattle.answer.specs.Words.{bytes}
-use Rattle.inference.specs.Intervals.{setOf, intervalsIn}
+use Rattle.inference.specs.Intervals.{intervalsIn}
 use Rattle.inference.specs.Parts.{omitThird, omitFifth}
 use Rattle.inference.specs.Suffix.{worded, parts, parenthesized}
 use Rattle.answer.specs.Written.{Writes}

@@ -3,28 +3,14 @@ use mathlib.Core.Path.{_≡_, sym, ap, subst, _∙_}
 use mathlib.Core.List.{List}
 use Prim.Native.Nat.{ℕ, _%_, _≤_}
 use native.Mathlib.Omega.{arith}
-use lib.ListN.{length}
-use lib.Seq.{length-take-le}
 use denote.Ref.{now}
 use borrow.Author.Needs.{needs}
 use Rattle.answer.specs.Replies.{Reply, text}
-use Rattle.answer.specs.declared.refusal.Refusal.the-variants.{NotASet}
-use Rattle.answer.specs.declared.output.Output.the-variants.{Refused}
-use Rattle.answer.proofs.Rooms.{Answered, refused}
-use Rattle.inference.proofs.Short.{suffix-short}
+use Rattle.answer.proofs.Rooms.{Answered, refused-by}
+use Rattle.answer.proofs.Writing.{counted, within}
 use Rattle.inference.proofs.Replied.{no-set, not-rooted, rooted}
 use Rattle.inference.proofs.normalize.suffix.Statement.{statement}
 use Rattle.inference.proofs.normalize.suffix.Tie as tie
-
--- refusal 1, where that is what the call has to give
-refusal : (reply : Reply) (room : List ℕ) → reply ≡ Reply.refuse NotASet → Answered reply room (Refused NotASet) room
-refusal reply room e = subst (λ (x : Reply). Answered x room (Refused NotASet) room) (sym e) (refused NotASet room)
-
--- the suffix is within the buffer
-within : (c : tie.After-put-suffix) → c .put-suffix .result ≤ length (c .put-suffix .last .0)
-within c =
-    let short = suffix-short (c .before .before .before .before .before .args .set) (omega arith) (omega arith) in
-    omega (arith, short, c .put-suffix .ensures .place, c .put-suffix .kept .0)
 
 returns-3 : tie.Need-returns-3
 returns-3 c =
@@ -39,12 +25,12 @@ pub suffix-spec : {M : Type 1} → statement M
 suffix-spec =
     tie.close
     (tie.spec
-    (λ c. refusal _ _ (no-set _ (c .if1 .taken)))
-    (λ c. refusal _ _ (not-rooted _ (c .before .if1 .left) (c .if2 .taken)))
+    (λ c. refused-by _ _ _ (no-set _ (c .if1 .taken)))
+    (λ c. refused-by _ _ _ (not-rooted _ (c .before .if1 .left) (c .if2 .taken)))
     (λ c. search needs)
     (λ c κs. search needs)
-    (λ c. within (c .before))
-    (λ c. sym (length-take-le _ _ (within (c .before .before))))
+    (λ c. within (c .before .put-suffix .ensures))
+    (λ c. counted (c .before .before .put-suffix .ensures))
     (λ c κs. search needs)
     (λ c. search needs)
     returns-3)

@@ -2,13 +2,13 @@
 use mathlib.Core.Path.{_≡_, ap, sym, _∙_}
 use mathlib.Core.List.{List, []}
 use Prim.Native.Nat.{_≤_}
-use native.Mathlib.Nat.{zero-add}
 use native.Mathlib.Omega.{arith}
-use lib.ListN.{length, take, length-take}
+use lib.ListN.{length, take}
 use denote.Ref.{now}
 use borrow.Author.Needs.{needs}
 use Rattle.answer.specs.Replies.{text, outputOf, roomAfter}
 use Rattle.answer.proofs.Rooms.{written}
+use Rattle.answer.proofs.Writing.{counted, within}
 use Rattle.listing.specs.Listing.{listingOf}
 use Rattle.listing.proofs.Laws.{long-listing}
 use Rattle.listing.proofs.search.listing.Statement.{statement}
@@ -21,9 +21,6 @@ returns c =
     let w = written [] out (omega arith) in
     (w .0 ∙ ap (λ (l : List _). outputOf (text l) out) (sym none), w .1 ∙ ap (λ (l : List _). roomAfter (text l) out) (sym none))
 
-counts : (c : tie.After-search) → c .search .result ≡ length (take (c .search .result) (c .search .last .1 .0))
-counts c = c .search .ensures .place ∙ zero-add _ ∙ ap length (sym (c .search .ensures .added))
-
 pub listing-spec : {M : Type 1} → statement M
 listing-spec =
     tie.close
@@ -31,8 +28,8 @@ listing-spec =
     returns
     (λ c. search needs)
     (λ c κs. search needs)
-    (λ c. omega (arith, counts (c .before), length-take (c .before .search .result) (c .before .search .last .1 .0)))
-    (λ c. counts (c .before .before))
+    (λ c. within (c .before .search .ensures))
+    (λ c. counted (c .before .before .search .ensures))
     (λ c κs. search needs)
     (λ c. search needs)
     (λ c. rw (c .before .before .before .before .before .before .search .ensures .added) at (c .before .before .give .ensures)))

@@ -7,14 +7,12 @@ use native.Mathlib.Omega.{arith}
 use lib.ListN.{length, take}
 use denote.Ref.{now}
 use borrow.Author.Needs.{needs}
-use Rattle.answer.specs.Replies.{Reply, refuse, text}
-use Rattle.answer.specs.declared.refusal.Refusal.{Refusal}
-use Rattle.answer.specs.declared.output.Output.the-variants.{Refused}
-use Rattle.answer.proofs.Rooms.{Answered, refused}
-use Rattle.chord.specs.Intervals.{degreeOf}
+use Rattle.answer.specs.Replies.{Reply, text}
+use Rattle.answer.proofs.Rooms.{Answered, refused-by}
+use Rattle.chord.specs.Intervals.{degreeOf, setOf}
 use Rattle.chord.specs.declared.note.Note.{Note}
 use Rattle.chord.specs.declared.interval.Interval.{Interval}
-use Rattle.inference.specs.Intervals.{setOf, intervalsIn, intervalsOf}
+use Rattle.inference.specs.Intervals.{intervalsIn, intervalsOf}
 use Rattle.spelling.specs.Tones.{rootNote, names, spaced, tonesOf}
 use Rattle.spelling.proofs.Spelled.{root-is}
 use Rattle.spelling.proofs.Counted.{some, few, small, back}
@@ -22,10 +20,6 @@ use Rattle.spelling.proofs.Row.{row-some, row-long, given}
 use Rattle.spelling.proofs.Replied.{no-set, not-rooted, no-class, told}
 use Rattle.spelling.proofs.tones.tones.Statement.{statement}
 use Rattle.spelling.proofs.tones.tones.Tie as tie
-
--- a refusal, where that is what the call has to give
-refusal : (why : Refusal) (reply : Reply) (room : List ℕ) → reply ≡ refuse why → Answered reply room (Refused why) room
-refusal why reply room e = subst (λ (x : Reply). Answered x room (Refused why) room) (sym e) (refused why room)
 
 -- the numbers that no test refused
 module _ (c : tie.Else3) where
@@ -92,9 +86,9 @@ pub tones-spec : {M : Type 1} → statement M
 tones-spec =
     tie.close
     (tie.spec
-    (λ c. refusal _ _ _ (no-set degreeOf _ _ (c .if1 .taken)))
-    (λ c. refusal _ _ _ (not-rooted degreeOf _ _ (c .before .if1 .left) (c .if2 .taken)))
-    (λ c. refusal _ _ _ (no-class degreeOf _ _ (c .before .before .if1 .left) (let h = c .before .if2 .left in omega arith) (c .if3 .taken)))
+    (λ c. refused-by _ _ _ (no-set degreeOf _ _ (c .if1 .taken)))
+    (λ c. refused-by _ _ _ (not-rooted degreeOf _ _ (c .before .if1 .left) (c .if2 .taken)))
+    (λ c. refused-by _ _ _ (no-class degreeOf _ _ (c .before .before .if1 .left) (let h = c .before .if2 .left in omega arith) (c .if3 .taken)))
     (λ c. search needs)
     (λ c κs. search needs)
     (λ c κs. search needs)

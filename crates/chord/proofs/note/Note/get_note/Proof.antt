@@ -4,9 +4,9 @@ use Prim.Native.Nat.{_<_, _≤_}
 use native.Mathlib.Omega.{arith}
 use borrow.Author.Needs.{needs}
 use borrow.Author.Tests.{le-leb, lt-leb}
+use Rattle.answer.proofs.Tests.{refused, admitted}
 use Rattle.chord.specs.Notes.{getNoteAnswer}
 use Rattle.chord.specs.declared.note.NoteAnswer.the-variants.{Is}
-use Rattle.chord.proofs.Moves.{refused, admitted}
 use Rattle.chord.proofs.note.Note.get_note.Statement.{statement}
 use Rattle.chord.proofs.note.Note.get_note.Tie as tie
 

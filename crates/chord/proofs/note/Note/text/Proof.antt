@@ -9,10 +9,10 @@ use borrow.Author.Needs.{needs}
 use Rattle.answer.specs.Words.{packed}
 use Rattle.answer.proofs.Rooms.{refused as no}
 use Rattle.answer.proofs.Digits.{put-first}
+use Rattle.answer.proofs.Tests.{refused, admitted}
 use Rattle.chord.specs.Notes.{isNote}
 use Rattle.chord.specs.NoteText.{signs, noteName, noteReply}
 use Rattle.chord.proofs.Names.{name-short}
-use Rattle.chord.proofs.Moves.{refused, admitted}
 use Rattle.chord.proofs.note.Note.text.Statement.{statement}
 use Rattle.chord.proofs.note.Note.text.Tie as tie
 

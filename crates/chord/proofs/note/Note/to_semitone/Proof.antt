@@ -1,9 +1,9 @@
 -- `chord::note::Note::to_semitone` meets its contract.
 use mathlib.Core.Path.{_≡_, ap}
 use borrow.Author.Needs.{needs}
+use Rattle.answer.proofs.Tests.{refused, admitted}
 use Rattle.chord.specs.Notes.{semitoneAnswer}
 use Rattle.chord.specs.declared.note.SemitoneAnswer.the-variants.{Is}
-use Rattle.chord.proofs.Moves.{refused, admitted}
 use Rattle.chord.proofs.note.Note.to_semitone.Statement.{statement}
 use Rattle.chord.proofs.note.Note.to_semitone.Tie as tie
 

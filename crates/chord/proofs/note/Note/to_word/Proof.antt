@@ -7,11 +7,12 @@ use lib.IntN.{ℤ}
 use borrow.Author.Needs.{needs}
 use Rattle.answer.specs.Words.{packed}
 use Rattle.answer.proofs.Digits.{packed-cons}
+use Rattle.answer.proofs.Tests.{refused, admitted}
 use Rattle.chord.specs.Notes.{countOf}
 use Rattle.chord.specs.NoteText.{letterName, signs, noteName}
 use Rattle.chord.specs.Heights.{heightOf, behindLetter}
 use Rattle.chord.proofs.Counts.{lowered, lowered-height}
-use Rattle.chord.proofs.Moves.{letter-less, is-count, height-is, refused, admitted}
+use Rattle.chord.proofs.Moves.{letter-less, is-count, height-is}
 use Rattle.chord.proofs.note.Note.to_word.Statement.{statement}
 use Rattle.chord.proofs.note.Note.to_word.Tie as tie
 

@@ -4,9 +4,10 @@ use mathlib.Core.Bool.{true}
 use Prim.Native.Nat.{ℕ, _+_, _-_, _%_, _<_}
 use native.Mathlib.Omega.{arith}
 use borrow.Author.Needs.{needs}
+use Rattle.answer.proofs.Tests.{refused, admitted}
 use Rattle.chord.specs.Notes.{isNote, getNote, transposed, transposeAnswer}
 use Rattle.chord.specs.declared.note.NoteAnswer.the-variants.{Is}
-use Rattle.chord.proofs.Moves.{letter-less, refused, admitted}
+use Rattle.chord.proofs.Moves.{letter-less}
 use Rattle.chord.proofs.note.Note.transpose.Statement.{statement}
 use Rattle.chord.proofs.note.Note.transpose.Tie as tie
 

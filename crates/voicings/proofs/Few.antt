@@ -1,0 +1,50 @@
+-- How many keys are placed: never more than the pool has tones.
+--     few-guides, few-tensions
+use mathlib.Core.Path.{_≡_, refl}
+use mathlib.Core.Bool.{Bool, true, false, cond, _||_}
+use mathlib.Core.List.{List, [], _∷_}
+use Prim.Native.Nat.{ℕ, zero, suc, _≤_}
+use native.Mathlib.Nat.{le-trans}
+use native.Mathlib.Omega.{arith}
+use lib.Dec.{eqb}
+use lib.ListN.{length}
+use Rattle.chord.specs.Sets.{has}
+use Rattle.voicings.specs.declared.pool.Tone.{Tone}
+use Rattle.voicings.specs.Choice.{bestOf, without, chosen, others, placedIn, placed}
+use Rattle.voicings.specs.Guides.{guideKeys, tensionKeys}
+
+some-or-none : (b : Bool) (k n : ℕ) (l : List ℕ) → length l ≤ n → length (cond b [] (k ∷ l)) ≤ suc n
+some-or-none true k n l h = omega arith
+some-or-none false k n l h = omega arith
+
+few-placed : (n lowest limit wanted : ℕ) (tones : List Tone) → length (placedIn n lowest limit wanted tones) ≤ n
+unfolding placedIn
+few-placed zero lowest limit wanted tones = omega arith
+few-placed (suc n) lowest limit wanted tones =
+    some-or-none (eqb (bestOf lowest limit wanted tones .rank) 255) (bestOf lowest limit wanted tones .key) n
+    (placedIn n lowest limit wanted (others (bestOf lowest limit wanted tones .interval) tones))
+    (few-placed n lowest limit wanted (others (bestOf lowest limit wanted tones .interval) tones))
+
+one-or-none : (b : Bool) (t : Tone) (n : ℕ) (l m : List Tone) → length l ≤ n → length m ≤ n → length (cond b (t ∷ l) m) ≤ suc n
+one-or-none true t n l m h k = omega arith
+one-or-none false t n l m h k = omega arith
+
+few-chosen : (whole once : ℕ) (tones : List Tone) → length (chosen whole once tones) ≤ length tones
+unfolding chosen
+few-chosen whole once [] = omega arith
+few-chosen whole once (t ∷ l) =
+    one-or-none (has whole (t .interval) || has once (t .interval)) t (length l) (chosen whole (without (t .interval) once) l) (chosen whole once l)
+    (few-chosen whole (without (t .interval) once) l) (few-chosen whole once l)
+
+few-of : (lowest limit wanted whole once : ℕ) (tones : List Tone) → length (placed lowest limit wanted (chosen whole once tones)) ≤ length tones
+unfolding placed
+few-of lowest limit wanted whole once tones =
+    le-trans (few-placed (length (chosen whole once tones)) lowest limit wanted (chosen whole once tones)) (few-chosen whole once tones)
+
+pub few-guides : (lowest highest : ℕ) (pool : List Tone) → length (guideKeys lowest highest pool) ≤ length pool
+unfolding guideKeys
+few-guides lowest highest pool = few-of lowest (suc highest) 0 _ _ pool
+
+pub few-tensions : (lowest lead : ℕ) (pool : List Tone) → length (tensionKeys lowest lead pool) ≤ length pool
+unfolding tensionKeys
+few-tensions lowest lead pool = few-of lowest lead lead _ _ pool

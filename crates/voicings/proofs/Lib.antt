@@ -1,0 +1,11 @@
+pub mod Digit
+pub mod Left
+pub mod Ring
+pub mod Removed
+pub mod Order
+pub mod Best
+pub mod Climb
+pub mod Owned
+pub mod Placing
+pub mod Few
+pub mod Replied

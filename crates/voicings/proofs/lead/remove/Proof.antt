@@ -1,0 +1,75 @@
+-- `voicings::lead::remove` meets its contract. The loop's invariant: those put in front, with those behind the next, are the pool without
+-- the tone.
+use mathlib.Core.Path.{_≡_, refl, sym, ap, _∙_}
+use mathlib.Core.List.{List, [], _∷_, _++_, append-nil}
+use Prim.Native.Nat.{ℕ, _+_, _-_, _≤_, _<_}
+use native.Mathlib.Omega.{arith}
+use lib.ListN.{length, take, getD, set, length-set}
+use lib.Seq.{slice, length-take-le}
+use borrow.Author.Needs.{needs}
+use Rattle.voicings.specs.declared.pool.Tone.{Tone}
+use Rattle.voicings.specs.Pool.{tonesIn}
+use Rattle.voicings.specs.Owners.{withoutAt}
+use Rattle.voicings.proofs.Left.{next, none, pushed, behind}
+use Rattle.voicings.proofs.Removed.{split, past}
+use Rattle.voicings.proofs.lead.remove.Statement.{statement}
+use Rattle.voicings.proofs.lead.remove.Tie as tie
+
+abbrev Inv-loop : tie.InvT-loop
+Inv-loop place count tones₀ last i₀ tones i =
+    (place ≤ i) × (i ≤ last) × (length tones ≡ 16) × (take i tones ++ slice (i + 1) count tones ≡ withoutAt place (take count tones₀))
+
+abbrev μ-loop : tie.MeasureT-loop
+μ-loop place count tones₀ last i₀ tones i = last - i
+
+-- the next tone goes to the place before it
+moved : (d : Tone) (l : List Tone) (i n : ℕ) → i + 1 < n → n ≤ length l
+    → take (i + 1) (set l i (getD l (i + 1) d)) ++ slice (i + 1 + 1) n (set l i (getD l (i + 1) d)) ≡ take i l ++ slice (i + 1) n l
+moved d l i n h k =
+    pushed l i (getD l (i + 1) d) _ (omega arith)
+    ∙ ap (λ (x : List Tone). take i l ++ (getD l (i + 1) d ∷ x)) (behind l (i + 1 + 1) n i (getD l (i + 1) d) (omega arith) (omega arith))
+    ∙ ap (λ (x : List Tone). take i l ++ x) (sym (next l (i + 1) n d h k))
+
+returns : tie.Need-returns Inv-loop μ-loop
+returns c =
+    let pool = c .before .args .pool in
+    let short = length-take-le (pool .count) (pool .tones) (omega arith) in
+    (c .before .pre .0, c .before .pre .1, sym (past (tonesIn pool) (c .before .args .place) (omega (arith, short, c .if1 .taken))))
+
+loop-again : tie.Need-loop-again Inv-loop μ-loop
+loop-again c =
+    let l = c .before .before .loop in
+    let s = c .before .before .before .before .before in
+    (omega arith, omega arith, simp length-set (l .inv .2), moved _ (l .tones) (l .i) (s .args .pool .count) (omega arith) (omega arith) ∙ l .inv .3)
+
+returns-2 : tie.Need-returns-2 Inv-loop μ-loop
+returns-2 c =
+    let l = c .before .loop in
+    let pool = c .before .before .before .before .args .pool in
+    let end : pool .count - 1 ≡ l .i = omega arith in
+    let no-more = none (l .tones) (l .i + 1) (pool .count) (omega arith) (omega arith) in (
+      l .inv .2,
+      omega arith,
+      ap (λ (n : ℕ). take n (l .tones)) end
+          ∙ sym (ap (λ (x : List Tone). take (l .i) (l .tones) ++ x) no-more ∙ append-nil (take (l .i) (l .tones)))
+          ∙ l .inv .3,
+    )
+
+pub remove-spec : {M : Type 1} → statement M
+remove-spec =
+    tie.close
+    (tie.spec
+    Inv-loop
+    μ-loop
+    returns
+    (λ c. omega arith)
+    (λ c. (omega arith, omega arith, c .before .before .pre .0, split (c .before .before .args .pool .tones) (c .before .before .args .place) (c .before .before .args .pool .count) (omega arith)))
+    (λ c. omega arith)
+    (λ c. omega arith)
+    (λ c. omega arith)
+    (λ c. omega arith)
+    (λ c. omega arith)
+    (λ c. omega arith)
+    (λ c. omega arith)
+    loop-again
+    returns-2)

@@ -1,0 +1,141 @@
+-- `voicings::voicing::voicing` meets its contract: the tests say what the call has to give, and `give` gives it.
+use mathlib.Core.Path.{_≡_, refl, sym, ap, ap₂, subst, _∙_}
+use mathlib.Core.Bool.{Bool, true, false, _&&_}
+use mathlib.Core.List.{List, _++_}
+use Prim.Native.Nat.{ℕ, _+_, _≤_, _<_}
+use native.Mathlib.Omega.{arith}
+use native.Mathlib.Nat.{zero-add}
+use lib.Dec.{leb, leb→le}
+use lib.ListN.{length, take, replicate}
+use denote.Ref.{now}
+use borrow.Author.Needs.{needs}
+use Rattle.answer.specs.Replies.{Reply, text}
+use Rattle.answer.specs.Written.{Writes}
+use Rattle.answer.proofs.Rooms.{Answered, refused-by}
+use Rattle.answer.proofs.Tests.{left, right, is-true, said, refused, admitted}
+use Rattle.answer.proofs.Writing.{also, same-text, counted, within}
+use Rattle.voicings.specs.declared.pool.Tone.{Tone}
+use Rattle.voicings.specs.Pool.{tonesIn, tonesOf, sorted}
+use Rattle.voicings.specs.Voicing.{bassKeys, aboveBass, wantedOf, isBass, arePairs, voicingOf}
+use Rattle.voicings.proofs.Replied.{few-classes, few-intervals, first-used, no-class, too-many, bad-pair, told, few-bass, length-ordered, front-sorted}
+use Rattle.voicings.proofs.voicing.voicing.Statement.{statement}
+use Rattle.voicings.proofs.voicing.voicing.Tie as tie
+
+returns : tie.Need-returns
+returns c =
+    let s = c .before .before .before .before .before in
+    let e = ap (λ (b : Bool). leb (s .args .chord .root) 11 && b) (c .before .is-bass .ensures) in
+    refused-by _ _ _ (no-class _ _ (s .args .chord) _ _ (refused _ _ e (c .if1 .taken)))
+
+-- the classes are not refused
+module _ (c : tie.Else1) where
+  abbrev root : ℕ
+  root = c .before .before .before .before .before .args .chord .root
+
+  good : leb root 11 && isBass (c .before .before .before .before .before .args .chord .bass) ≡ true
+  good = admitted _ _ (ap (λ (b : Bool). leb root 11 && b) (c .before .is-bass .ensures)) (c .if1 .left)
+
+  is-root : root ≤ 11
+  is-root = leb→le root 11 (left (leb root 11) _ (said _ good))
+
+  is-bass : isBass (c .before .before .before .before .before .args .chord .bass) ≡ true
+  is-bass = is-true _ (right (leb root 11) _ (said _ good))
+
+returns-2 : tie.Need-returns-2
+returns-2 c =
+    let s = c .before .before .before .before .before .before .before in
+    refused-by _ _ _ (too-many _ _ (s .args .chord) _ _ (good (c .before .before)) (subst (λ (n : ℕ). 16 < n) (c .before .used .ensures) (c .if2 .taken)))
+
+-- how many pairs there are
+module _ (c : tie.Else2) where
+  abbrev count : ℕ
+  count = c .before .used .result
+
+  abbrev classes : List ℕ
+  classes = now (c .before .before .before .before .before .before .before .args .classes)
+
+  abbrev intervals : List ℕ
+  intervals = now (c .before .before .before .before .before .before .before .args .intervals)
+
+  in-classes : count ≤ length classes
+  in-classes = rw (c .before .used .ensures) (few-classes classes intervals)
+
+  in-intervals : count ≤ length intervals
+  in-intervals = rw (c .before .used .ensures) (few-intervals classes intervals)
+
+  used-tones : tonesOf (take count classes) (take count intervals) ≡ tonesOf classes intervals
+  used-tones = rw (c .before .used .ensures) (first-used classes intervals)
+
+  few : length (tonesOf classes intervals) ≤ 16
+  few = subst (λ (n : ℕ). n ≤ 16) (c .before .used .ensures) (c .if2 .left)
+
+returns-3 : tie.Need-returns-3
+returns-3 c =
+    let s = c .before .before .before .before .before .before .before .before .before in
+    let e = c .before .before in
+    let bad = refused _ _ (c .before .are-pairs .ensures ∙ ap arePairs (used-tones e)) (c .if3 .taken) in
+    refused-by _ _ _ (bad-pair _ _ (s .args .chord) _ _ (good (e .before .before)) (few e) bad)
+
+-- the pool: its run of tones, and which they are
+module _ (c : tie.After-arranged) where
+  size : length (c .arranged .result) ≡ 16
+  size = ap length (c .arranged .ensures) ∙ length-ordered (count (c .before .before .before .before)) (c .before .gathered .result) ∙ c .before .gathered .ensures .0
+
+  tones : take (count (c .before .before .before .before)) (c .arranged .result)
+      ≡ sorted (tonesOf (classes (c .before .before .before .before)) (intervals (c .before .before .before .before)))
+  tones =
+      let e = c .before .before .before .before in
+      ap (take (count e)) (c .arranged .ensures)
+      ∙ front-sorted (count e) (c .before .gathered .result) (omega (arith, c .before .gathered .ensures .0, e .if2 .left))
+      ∙ ap sorted (c .before .gathered .ensures .1 ∙ used-tones e)
+
+-- the voicing stands at the front of the buffer
+module _ (c : tie.After-put-above) where
+  abbrev arranged : tie.After-arranged
+  arranged = c .before .before .before .before .before .before
+
+  abbrev start : tie.Start
+  start = arranged .before .before .before .before .before .before .before .before .before .before .before
+
+  stands : Writes (replicate 35 0) 0 (voicingOf 51 79 (start .args .chord) (now (start .args .classes)) (now (start .args .intervals))) (c .put-above .result) (c .put-above .last .0)
+  unfolding voicingOf
+  stands =
+      same-text
+      (ap₂ (λ (w : ℕ) (l : List Tone). bassKeys (start .args .chord .root) (start .args .chord .bass) ++ aboveBass 51 79 w l) (c .before .wanted .ensures) (tones arranged))
+      (also (c .before .before .before .before .put-bass .ensures) (c .put-above .ensures))
+
+returns-4 : tie.Need-returns-4
+returns-4 c =
+    let g = c .before .before in
+    let p = g .before .before .before .before in
+    let s = start p in
+    let e = arranged p .before .before .before .before in
+    let good-pairs = admitted _ _ (arranged p .before .before .before .are-pairs .ensures ∙ ap arePairs (used-tones e)) (arranged p .before .before .if3 .left) in
+    let reply = ap text (stands p .added) ∙ sym (told 51 79 (s .args .chord) (now (s .args .classes)) (now (s .args .intervals)) (good (e .before .before)) (few e) good-pairs) in
+    subst (λ (x : Reply). Answered x (now (s .args .out)) (g .give .result) (g .give .last .1 .0)) reply (g .give .ensures)
+
+pub voicing-spec : {M : Type 1} → statement M
+voicing-spec =
+    tie.close
+    (tie.spec
+    (λ c κs. search needs)
+    returns
+    (λ c κs. search needs)
+    returns-2
+    (λ c κs. (in-classes c, in-intervals c))
+    returns-3
+    (λ c κs. let e = c .before .before in (e .if2 .left, in-classes e, in-intervals e))
+    (λ c κs. (c .gathered .ensures .0, c .before .before .before .if2 .left))
+    (λ c. search needs)
+    (λ c κs. let e = c .before .before .before .before .before .before .before in (is-root e, is-bass e, omega arith))
+    (λ c. search needs)
+    (λ c κs. search needs)
+    (λ c κs. let b = c .before .before .before in
+    let a = b .before .before in
+    let s = a .before .before .before .before .before .before .before .before .before .before .before in
+    (size a, a .before .before .before .before .if2 .left, omega (arith, b .put-bass .ensures .place, few-bass (s .args .chord .root) (s .args .chord .bass), b .put-bass .kept .0)))
+    (λ c. within (stands (c .before)))
+    (λ c. counted (stands (c .before .before)))
+    (λ c κs. search needs)
+    (λ c. search needs)
+    returns-4)

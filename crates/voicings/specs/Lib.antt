@@ -1,0 +1,7 @@
+pub mod Pool
+pub mod Choice
+pub mod Offered
+pub mod Lead
+pub mod Owners
+pub mod Guides
+pub mod Voicing

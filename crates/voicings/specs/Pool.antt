@@ -1,0 +1,54 @@
+-- The pool: paper 01, "Voicing (001)" ("A tone's base is its interval's semitones mod 12"; "Tones are ordered by base, equal bases in
+-- the order given").
+--     baseOf       the base of what a number names, by the table of intervals
+--     toneOf       the tone of a note class and an interval's number
+--     tonesOf      the tones of two ranges: "Only as many pairs as the shorter range has are used"
+--     tonesIn      the tones of a pool as the code has it
+--     insert       a tone goes before the first whose base is not less than its own
+--     sorted       tones in order of base, equal bases in the list's order
+--     ordered      the first n tones sorted, and the others as they were
+--     siftAt       the tone at a place goes on into its place among the m tones behind it
+use mathlib.Core.Bool.{cond}
+use mathlib.Core.List.{List, [], _∷_, _++_}
+use Prim.Native.Nat.{ℕ, zero, suc}
+use lib.Dec.{ltb}
+use lib.ListN.{take, drop}
+use Rattle.chord.specs.Intervals.{numbered, classOf}
+use Rattle.chord.specs.declared.interval.Numbered.{Numbered}
+use Rattle.chord.specs.declared.interval.Numbered.the-variants.{Is, Nothing}
+use Rattle.voicings.specs.declared.pool.Tone.{Tone}
+use Rattle.voicings.specs.declared.pool.Pool.{Pool}
+
+abbrev pub baseNamed : Numbered → ℕ
+baseNamed (Is i) = classOf i
+baseNamed Nothing = 0
+
+abbrev pub baseOf : ℕ → ℕ
+baseOf interval = baseNamed (numbered interval)
+
+abbrev pub toneOf : ℕ → ℕ → Tone
+toneOf class interval = record { base = baseOf interval; class = class; interval = interval }
+
+unfoldable pub tonesOf : List ℕ → List ℕ → List Tone
+tonesOf [] intervals = []
+tonesOf (c ∷ classes) [] = []
+tonesOf (c ∷ classes) (i ∷ intervals) = toneOf c i ∷ tonesOf classes intervals
+
+abbrev pub tonesIn : Pool → List Tone
+tonesIn pool = take (pool .count) (pool .tones)
+
+unfoldable pub insert : Tone → List Tone → List Tone
+insert t [] = t ∷ []
+insert t (x ∷ more) = cond (ltb (x .base) (t .base)) (x ∷ insert t more) (t ∷ x ∷ more)
+
+unfoldable pub sorted : List Tone → List Tone
+sorted [] = []
+sorted (t ∷ more) = insert t (sorted more)
+
+unfoldable pub ordered : ℕ → List Tone → List Tone
+ordered n tones = sorted (take n tones) ++ drop n tones
+
+unfoldable pub siftAt : ℕ → ℕ → List Tone → List Tone
+siftAt n m [] = []
+siftAt zero m (t ∷ more) = insert t (take m more) ++ drop m more
+siftAt (suc n) m (t ∷ more) = t ∷ siftAt n m more

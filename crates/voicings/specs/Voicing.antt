@@ -1,0 +1,65 @@
+-- The voicing of a chord: paper 01, "Voicing (001)" and "Numbers given back".
+--     lowestKey, highestKey   "kept within 51..79", MIDI 1.0's Eb and G around middle C, key 60
+--     wantedOf     the lead asked for, "or none (79)": the highest key
+--     bassKeys     "bass + 36 and root + 48, or with no bass root + 36"
+--     voicingOf    "Output: .. guides; tensions; lead", the pool ordered by base
+--     isBass       a bass class that is none refused: "bass none excepted"
+--     arePairs     each pair has a note class up to 11 and an interval up to 22
+--     voicingReply what a call has to give: refusals 2, 3 and 4 in this order, or the voicing
+use mathlib.Core.Bool.{Bool, true, cond, _&&_}
+use mathlib.Core.List.{List, [], _∷_, _++_}
+use Prim.Native.Nat.{ℕ, _+_}
+use lib.Dec.{leb}
+use lib.ListN.{length}
+use Rattle.answer.specs.Replies.{Reply, refuse, text}
+use Rattle.answer.specs.declared.refusal.Refusal.the-variants.{BadClass, TooManyPairs, BadPair}
+use Rattle.voicings.specs.declared.pool.Tone.{Tone}
+use Rattle.voicings.specs.declared.voicing.Bass.{Bass}
+use Rattle.voicings.specs.declared.voicing.Bass.the-variants as Bass
+use Rattle.voicings.specs.declared.voicing.Lead.{Lead}
+use Rattle.voicings.specs.declared.voicing.Lead.the-variants as Lead
+use Rattle.voicings.specs.declared.voicing.Chord.{Chord}
+use Rattle.voicings.specs.Pool.{tonesOf, sorted}
+use Rattle.voicings.specs.Lead.{leadOf, withoutLast}
+use Rattle.voicings.specs.Guides.{guideKeys, tensionKeys}
+
+abbrev pub lowestKey : ℕ
+lowestKey = 51
+
+abbrev pub highestKey : ℕ
+highestKey = 79
+
+abbrev pub wantedOf : ℕ → Lead → ℕ
+wantedOf highest Lead.None = highest
+wantedOf highest (Lead.Key key) = key
+
+abbrev pub bassKeys : ℕ → Bass → List ℕ
+bassKeys root Bass.None = (root + 36) ∷ []
+bassKeys root (Bass.Class bass) = (bass + 36) ∷ (root + 48) ∷ []
+
+-- the pool ordered, then what is left of it once the lead has left
+unfoldable pub aboveBass : ℕ → ℕ → ℕ → List Tone → List ℕ
+aboveBass lowest highest wanted pool =
+    let lead = leadOf lowest highest wanted pool in
+    let left = withoutLast lowest highest lead pool in
+    guideKeys lowest highest left ++ tensionKeys lowest lead left ++ (lead ∷ [])
+
+unfoldable pub voicingOf : ℕ → ℕ → Chord → List ℕ → List ℕ → List ℕ
+voicingOf lowest highest chord classes intervals =
+    bassKeys (chord .root) (chord .bass) ++ aboveBass lowest highest (wantedOf highest (chord .lead)) (sorted (tonesOf classes intervals))
+
+abbrev pub isBass : Bass → Bool
+isBass Bass.None = true
+isBass (Bass.Class bass) = leb bass 11
+
+unfoldable pub arePairs : List Tone → Bool
+arePairs [] = true
+arePairs (t ∷ more) = leb (t .class) 11 && leb (t .interval) 22 && arePairs more
+
+unfoldable pub voicingReply : ℕ → ℕ → Chord → List ℕ → List ℕ → Reply
+voicingReply lowest highest chord classes intervals =
+    cond (leb (chord .root) 11 && isBass (chord .bass))
+    (cond (leb (length (tonesOf classes intervals)) 16)
+    (cond (arePairs (tonesOf classes intervals)) (text (voicingOf lowest highest chord classes intervals)) (refuse BadPair))
+    (refuse TooManyPairs))
+    (refuse BadClass)

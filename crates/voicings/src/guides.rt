@@ -1,0 +1,117 @@
+// Guides and tensions: which tones of the pool are placed between the bass and the lead.
+use crate::bits::in_set;
+use crate::offers::offered;
+use crate::offers::put_placed;
+use crate::pool::Pool;
+use crate::range::LIMIT;
+use chord::interval::AUGMENTED_FIFTH;
+use chord::interval::AUGMENTED_FOURTH;
+use chord::interval::DIMINISHED_FIFTH;
+use chord::interval::DIMINISHED_SEVENTH;
+use chord::interval::ELEVENTH;
+use chord::interval::FLAT_NINTH;
+use chord::interval::FLAT_THIRTEENTH;
+use chord::interval::MAJOR_SEVENTH;
+use chord::interval::MAJOR_SIXTH;
+use chord::interval::MAJOR_THIRD;
+use chord::interval::MINOR_SEVENTH;
+use chord::interval::MINOR_THIRD;
+use chord::interval::NINTH;
+use chord::interval::PERFECT_FIFTH;
+use chord::interval::PERFECT_FOURTH;
+use chord::interval::SHARP_ELEVENTH;
+use chord::interval::SHARP_NINTH;
+use chord::interval::THIRTEENTH;
+use chord::interval::UNISON;
+ghost use mathlib.Core.Path.{_≡_};
+ghost use Prim.Native.Nat.{_+_, _≤_};
+ghost use lib.ListN.{length};
+ghost use Rattle.answer.specs.Written.{Writes};
+ghost use Rattle.chord.specs.Intervals.{setOf};
+ghost use Rattle.voicings.specs.Pool.{tonesIn};
+ghost use Rattle.voicings.specs.Guides.{holdsAny, guideOnce, tensionOnce, guideKeys, tensionKeys};
+
+const GUIDES: u32 = MINOR_THIRD
+    | MAJOR_THIRD
+    | PERFECT_FOURTH
+    | AUGMENTED_FOURTH
+    | DIMINISHED_FIFTH
+    | AUGMENTED_FIFTH
+    | DIMINISHED_SEVENTH
+    | MINOR_SEVENTH;
+
+const TENSIONS: u32 = FLAT_NINTH
+    | NINTH
+    | SHARP_NINTH
+    | ELEVENTH
+    | SHARP_ELEVENTH
+    | FLAT_THIRTEENTH
+    | THIRTEENTH;
+
+const SIXTHS: u32 = MAJOR_SIXTH | DIMINISHED_SEVENTH;
+
+// Pools of fewer tones than these are small, and very small: a fifth and the root keep a voicing from being too sparse.
+const SMALL: usize = 6;
+
+const VERY_SMALL: usize = 3;
+
+fn holds_any(pool: Pool, set: u32) -> bool
+    requires { ⌜ (length (pool .tones) ≡ 16) × (pool .count ≤ 16) ⌝ }
+    ensures { λ r. ⌜ r ≡ holdsAny set (tonesIn pool) ⌝ }
+{
+    let mut i = 0;
+    while i < pool.count {
+        let tone = pool.tones[i];
+        if in_set(set, tone.interval) {
+            return true;
+        }
+        i += 1;
+    }
+    false
+}
+
+// Of which interval the first tone is a guide too: a sixth, or a major seventh, stays clear of the other sevenths.
+fn guide_once(sixth: bool, seventh: bool) -> u32
+    ensures { λ r. ⌜ r ≡ setOf (guideOnce sixth seventh) ⌝ }
+{
+    if !sixth {
+        return MAJOR_SEVENTH;
+    }
+    if seventh {
+        return 0;
+    }
+    MAJOR_SIXTH
+}
+
+// Of which intervals the first tone is a tension too: what a small pool wants, and the sixth or seventh that is no guide.
+fn tension_once(sixth: bool, seventh: bool, count: usize) -> u32
+    ensures { λ r. ⌜ r ≡ setOf (tensionOnce sixth seventh count) ⌝ }
+{
+    let fifths = ((count < SMALL) as u32) % 2 * (PERFECT_FIFTH + DIMINISHED_FIFTH);
+    let root = ((count < VERY_SMALL) as u32) % 2 * UNISON;
+    let clear_of_minor = ((sixth & seventh) as u32) % 2 * MAJOR_SIXTH;
+    let clear_of_sixth = ((sixth & !seventh) as u32) % 2 * MAJOR_SEVENTH;
+    fifths + root + clear_of_minor + clear_of_sixth
+}
+
+// Writes the guides behind a place, lowest first.
+pub(crate) fn put_guides(buffer: &mut [u8], place: usize, pool: Pool) -> usize
+    requires { ⌜ (length (pool .tones) ≡ 16) × (pool .count ≤ 16) × (place + 16 ≤ length (now buffer)) ⌝ }
+    ensures { λ r. ⌜ Writes (now (buffer .entry)) place (guideKeys 51 79 (tonesIn pool)) r (now (buffer .exit)) ⌝ }
+{
+    let once = guide_once(holds_any(pool, SIXTHS), holds_any(pool, MINOR_SEVENTH));
+    put_placed(buffer, place, offered(pool, GUIDES, once, 0, LIMIT))
+}
+
+// Writes the tensions below a lead behind a place, highest first.
+pub(crate) fn put_tensions(buffer: &mut [u8], place: usize, pool: Pool, lead: u8) -> usize
+    requires { ⌜ (length (pool .tones) ≡ 16) × (pool .count ≤ 16) × (place + 16 ≤ length (now buffer)) ⌝ }
+    ensures { λ r. ⌜ Writes (now (buffer .entry)) place (tensionKeys 51 lead (tonesIn pool)) r (now (buffer .exit)) ⌝ }
+{
+    let once = tension_once(
+        holds_any(pool, SIXTHS),
+        holds_any(pool, MINOR_SEVENTH),
+        pool.count,
+    );
+    put_placed(buffer, place, offered(pool, TENSIONS, once, lead, lead))
+}

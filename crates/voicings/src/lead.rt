@@ -1,0 +1,125 @@
+// The lead: the key of an unbarred tone that is nearest to the wanted one, and what the pool is once it has left.
+use crate::bits::take_out;
+use crate::offers::best;
+use crate::offers::distance;
+use crate::offers::offered;
+use crate::pool::Pool;
+use crate::pool::Tone;
+use crate::range::HIGHEST;
+use crate::range::LIMIT;
+use crate::range::LOWEST;
+use crate::range::OCTAVE_KEY;
+ghost use mathlib.Core.Path.{_≡_};
+ghost use mathlib.Core.Bool.{cond};
+ghost use mathlib.Core.List.{_++_};
+ghost use Prim.Native.Nat.{_+_, _-_, _≤_, _<_};
+ghost use lib.ListN.{length, take, drop};
+ghost use Rattle.voicings.specs.Pool.{tonesIn};
+ghost use Rattle.voicings.specs.Choice.{without};
+ghost use Rattle.voicings.specs.Lead.{rubs, unbarred, owns, withoutLast, leadOf};
+ghost use Rattle.voicings.specs.Owners.{withoutAt};
+
+// Every interval, as a set.
+const EVERY: u32 = (1 << 23) - 1;
+
+fn rubs(tone: Tone, next: Tone) -> bool
+    ensures { λ r. ⌜ r ≡ rubs tone next ⌝ }
+{
+    let apart = distance(tone.base, next.base);
+    (apart == 1) | (apart == 11)
+}
+
+// A set of intervals after a tone and its successor: where they rub, the successor's is barred.
+fn barring(free: u32, tone: Tone, next: Tone) -> u32
+    ensures { λ r. ⌜ r ≡ cond (rubs tone next) (without (next .interval) free) free ⌝ }
+{
+    if rubs(tone, next) {
+        return take_out(free, next.interval);
+    }
+    free
+}
+
+// The intervals that no tone bars. Each tone is its successor's, the last the first's.
+fn unbarred(pool: Pool) -> u32
+    requires { ⌜ (length (pool .tones) ≡ 16) × (pool .count ≤ 16) ⌝ }
+    ensures { λ r. ⌜ r ≡ unbarred (tonesIn pool) ⌝ }
+{
+    let count = pool.count;
+    let mut free = EVERY;
+    if count == 0 {
+        return free;
+    }
+    let mut tone = pool.tones[count - 1];
+    let mut i = 0;
+    while i < count {
+        let next = pool.tones[i];
+        free = barring(free, tone, next);
+        tone = next;
+        i += 1;
+    }
+    free
+}
+
+// The lead, or 0 where every tone is barred.
+pub(crate) fn lead_key(pool: Pool, wanted: u8) -> u8
+    requires { ⌜ (length (pool .tones) ≡ 16) × (pool .count ≤ 16) ⌝ }
+    ensures { λ r. ⌜ r ≡ leadOf 51 79 wanted (tonesIn pool) ⌝ }
+{
+    let choice = offered(pool, unbarred(pool), 0, wanted, LIMIT);
+    let nearest = best(choice);
+    nearest.key
+}
+
+fn owns(tone: Tone, key: u8) -> bool
+    ensures { λ r. ⌜ r ≡ owns 51 79 key tone ⌝ }
+{
+    let first = OCTAVE_KEY + tone.class as u32;
+    let wide = key as u32;
+    if wide < first {
+        return false;
+    }
+    (LOWEST <= wide) & (key <= HIGHEST) & ((wide - first) % 12 == 0)
+}
+
+// The place of the last tone that owns a key, or the count of tones where none does.
+fn last_owner(pool: Pool, key: u8) -> usize
+    requires { ⌜ (length (pool .tones) ≡ 16) × (pool .count ≤ 16) ⌝ }
+    ensures { λ r. ⌜ (r ≤ pool .count) × (withoutAt r (tonesIn pool) ≡ withoutLast 51 79 key (tonesIn pool)) ⌝ }
+{
+    let count = pool.count;
+    let mut i = count;
+    while 0 < i {
+        i -= 1;
+        if owns(pool.tones[i], key) {
+            return i;
+        }
+    }
+    count
+}
+
+// The pool without its tone at a place; where the place is past the last, the pool as it is.
+fn remove(pool: Pool, place: usize) -> Pool
+    requires { ⌜ (length (pool .tones) ≡ 16) × (pool .count ≤ 16) ⌝ }
+    ensures { λ r. ⌜ (length (r .tones) ≡ 16) × (r .count ≤ 16) × (tonesIn r ≡ withoutAt place (tonesIn pool)) ⌝ }
+{
+    let count = pool.count;
+    if place >= count {
+        return pool;
+    }
+    let mut tones = pool.tones;
+    let last = count - 1;
+    let mut i = place;
+    while i < last {
+        tones[i] = tones[i + 1];
+        i += 1;
+    }
+    Pool { tones, count: last }
+}
+
+// What is left of the pool once the lead has left it.
+pub(crate) fn leave(pool: Pool, lead: u8) -> Pool
+    requires { ⌜ (length (pool .tones) ≡ 16) × (pool .count ≤ 16) ⌝ }
+    ensures { λ r. ⌜ (length (r .tones) ≡ 16) × (r .count ≤ 16) × (tonesIn r ≡ withoutLast 51 79 lead (tonesIn pool)) ⌝ }
+{
+    remove(pool, last_owner(pool, lead))
+}

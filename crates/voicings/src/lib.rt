@@ -1,0 +1,8 @@
+// From a chord to the keys that a player strikes: the voicing generator of the Rust's `voicings/mod.rs`.
+mod bits;
+mod guides;
+mod lead;
+mod offers;
+mod pool;
+mod range;
+pub mod voicing;

@@ -1,0 +1,94 @@
+// The pool of a chord's tones, ordered by base.
+use chord::interval::Interval;
+use chord::interval::Numbered;
+ghost use mathlib.Core.Path.{_≡_};
+ghost use Prim.Native.Nat.{_-_, _+_, _≤_, _<_};
+ghost use lib.ListN.{length, take};
+ghost use Rattle.voicings.specs.Pool.{baseOf, toneOf, tonesOf, siftAt, ordered};
+
+// A tone of a chord: its interval's semitones in one octave, its class, and its interval's number.
+pub struct Tone {
+    pub base: u8,
+    pub class: u8,
+    pub interval: u8,
+}
+
+// The first `count` of the tones are in the pool.
+pub struct Pool {
+    pub tones: [Tone; 16],
+    pub count: usize,
+}
+
+fn base(interval: u8) -> u8
+    ensures { λ r. ⌜ r ≡ baseOf interval ⌝ }
+{
+    match Interval::from_number(interval as u32) {
+        Numbered::Is(named) => (named.st() % 12) as u8,
+        Numbered::Nothing => 0,
+    }
+}
+
+impl Tone {
+    fn new(class: u8, interval: u8) -> Tone
+        ensures { λ r. ⌜ r ≡ toneOf class interval ⌝ }
+    {
+        Tone {
+            base: base(interval),
+            class,
+            interval,
+        }
+    }
+}
+
+// The tones of the first pairs, in the order given.
+pub(crate) fn gathered(classes: &[u8], intervals: &[u8], count: usize) -> [Tone; 16]
+    requires { ⌜ (count ≤ 16) × (count ≤ length (now classes)) × (count ≤ length (now intervals)) ⌝ }
+    ensures { λ r. ⌜ (length r ≡ 16) × (take count r ≡ tonesOf (take count (now (classes .entry))) (take count (now (intervals .entry)))) ⌝ }
+{
+    let mut tones = [Tone {
+        base: 0,
+        class: 0,
+        interval: 0,
+    }; 16];
+    let mut i = 0;
+    while i < count {
+        tones[i] = Tone::new(classes[i], intervals[i]);
+        i += 1;
+    }
+    tones
+}
+
+// The tone at a place goes on into its place among the tones behind it, up to the first `count`.
+fn sifted(tones: [Tone; 16], place: usize, count: usize) -> [Tone; 16]
+    requires { ⌜ (length tones ≡ 16) × (count ≤ 16) × (place < count) ⌝ }
+    ensures { λ r. ⌜ r ≡ siftAt place (count - (place + 1)) tones ⌝ }
+{
+    let mut sifting = tones;
+    let mut at = place;
+    while at + 1 < count {
+        let tone = sifting[at];
+        let next = sifting[at + 1];
+        if tone.base <= next.base {
+            return sifting;
+        }
+        sifting[at] = next;
+        sifting[at + 1] = tone;
+        at += 1;
+    }
+    sifting
+}
+
+// The first `count` tones in order of base, tones of equal base as they stood.
+pub(crate) fn arranged(tones: [Tone; 16], count: usize) -> [Tone; 16]
+    requires { ⌜ (length tones ≡ 16) × (count ≤ 16) ⌝ }
+    ensures { λ r. ⌜ r ≡ ordered count tones ⌝ }
+{
+    let mut ordering = tones;
+    let mut i = count;
+    while 0 < i {
+        i -= 1;
+        let next = sifted(ordering, i, count);
+        ordering = next;
+    }
+    ordering
+}

@@ -1,0 +1,10 @@
+// The range that a voicing keeps to above its bass: Eb2 to G4. A chord with no lead is led by the highest key.
+pub(crate) const LOWEST: u32 = 51;
+
+pub(crate) const HIGHEST: u8 = 79;
+
+// One past the highest key: a tone's keys stay below a limit.
+pub(crate) const LIMIT: u8 = 80;
+
+// A class's lowest note in that range stands at or above this key, the class's own: C2.
+pub(crate) const OCTAVE_KEY: u32 = 48;

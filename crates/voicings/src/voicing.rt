@@ -1,0 +1,147 @@
+// The voicing of a chord record: bass, guides, tensions, lead.
+use crate::guides::put_guides;
+use crate::guides::put_tensions;
+use crate::lead::lead_key;
+use crate::lead::leave;
+use crate::pool::Pool;
+use crate::pool::arranged;
+use crate::pool::gathered;
+use crate::range::HIGHEST;
+use answer::output::Output;
+use answer::output::give;
+use answer::refusal::Refusal;
+ghost use mathlib.Core.Path.{_≡_};
+ghost use mathlib.Core.Bool.{true, _&&_};
+ghost use Prim.Native.Nat.{_+_, _≤_};
+ghost use lib.Dec.{leb};
+ghost use lib.ListN.{length, take};
+ghost use Rattle.answer.specs.Replies.{outputOf, roomAfter};
+ghost use Rattle.answer.specs.Written.{Writes};
+ghost use Rattle.voicings.specs.Pool.{tonesIn, tonesOf};
+ghost use Rattle.voicings.specs.Voicing.{lowestKey, highestKey, wantedOf, bassKeys, aboveBass, isBass, arePairs, voicingReply};
+
+pub enum Bass {
+    None,
+    Class(u32),
+}
+
+pub enum Lead {
+    None,
+    Key(u8),
+}
+
+// A chord, but for its tones: these are pairs of a note class and an interval's number.
+pub struct Chord {
+    pub root: u32,
+    pub bass: Bass,
+    pub lead: Lead,
+}
+
+const LAST_CLASS: u32 = 11;
+
+const LAST_INTERVAL: u8 = 22;
+
+const MOST_PAIRS: usize = 16;
+
+// Two bass keys, sixteen guides, sixteen tensions and the lead.
+const ROOM: usize = 35;
+
+fn is_bass(bass: Bass) -> bool
+    ensures { λ r. ⌜ r ≡ isBass bass ⌝ }
+{
+    match bass {
+        Bass::None => true,
+        Bass::Class(class) => class <= LAST_CLASS,
+    }
+}
+
+fn wanted(lead: Lead) -> u8
+    ensures { λ r. ⌜ r ≡ wantedOf highestKey lead ⌝ }
+{
+    match lead {
+        Lead::None => HIGHEST,
+        Lead::Key(key) => key,
+    }
+}
+
+// How many pairs are used: as many as the shorter range has.
+fn used(classes: &[u8], intervals: &[u8]) -> usize
+    ensures { λ r. ⌜ r ≡ length (tonesOf (now (classes .entry)) (now (intervals .entry))) ⌝ }
+{
+    if classes.len() < intervals.len() {
+        return classes.len();
+    }
+    intervals.len()
+}
+
+fn are_pairs(classes: &[u8], intervals: &[u8], count: usize) -> bool
+    requires { ⌜ (count ≤ length (now classes)) × (count ≤ length (now intervals)) ⌝ }
+    ensures { λ r. ⌜ r ≡ arePairs (tonesOf (take count (now (classes .entry))) (take count (now (intervals .entry)))) ⌝ }
+{
+    let mut i = 0;
+    while i < count {
+        if classes[i] > 11 {
+            return false;
+        }
+        if intervals[i] > LAST_INTERVAL {
+            return false;
+        }
+        i += 1;
+    }
+    true
+}
+
+// Writes the bass and the root, or the root alone, to the front of a buffer.
+fn put_bass(buffer: &mut [u8], root: u32, bass: Bass) -> usize
+    requires { ⌜ (root ≤ 11) × (isBass bass ≡ true) × (2 ≤ length (now buffer)) ⌝ }
+    ensures { λ r. ⌜ Writes (now (buffer .entry)) 0 (bassKeys root bass) r (now (buffer .exit)) ⌝ }
+{
+    match bass {
+        Bass::None => {
+            buffer[0] = (root + 36) as u8;
+            1
+        }
+        Bass::Class(class) => {
+            buffer[0] = (class + 36) as u8;
+            buffer[1] = (root + 48) as u8;
+            2
+        }
+    }
+}
+
+// Writes what stands above the bass behind a place: guides, tensions, lead.
+fn put_above(buffer: &mut [u8], place: usize, pool: Pool, wanted: u8) -> usize
+    requires { ⌜ (length (pool .tones) ≡ 16) × (pool .count ≤ 16) × (place + 33 ≤ length (now buffer)) ⌝ }
+    ensures { λ r. ⌜ Writes (now (buffer .entry)) place (aboveBass lowestKey highestKey wanted (tonesIn pool)) r (now (buffer .exit)) ⌝ }
+{
+    let lead = lead_key(pool, wanted);
+    let left = leave(pool, lead);
+    let guided = put_guides(buffer, place, left);
+    let tensed = put_tensions(buffer, guided, left, lead);
+    buffer[tensed] = lead;
+    tensed + 1
+}
+
+// The voicing of a chord and its pairs, of which as many are used as the shorter range has.
+pub fn voicing(chord: Chord, classes: &[u8], intervals: &[u8], out: &mut [u8]) -> Output
+    ensures { λ r. ⌜ (r ≡ outputOf (voicingReply lowestKey highestKey chord (now (classes .entry)) (now (intervals .entry))) (now (out .entry))) × (now (out .exit) ≡ roomAfter (voicingReply lowestKey highestKey chord (now (classes .entry)) (now (intervals .entry))) (now (out .entry))) ⌝ }
+{
+    let root = chord.root;
+    let bass = chord.bass;
+    let lead = chord.lead;
+    if !((root <= LAST_CLASS) & is_bass(bass)) {
+        return Output::Refused(Refusal::BadClass);
+    }
+    let count = used(classes, intervals);
+    if count > MOST_PAIRS {
+        return Output::Refused(Refusal::TooManyPairs);
+    }
+    if !are_pairs(classes, intervals, count) {
+        return Output::Refused(Refusal::BadPair);
+    }
+    let tones = arranged(gathered(classes, intervals, count), count);
+    let mut buffer = [0u8; ROOM];
+    let place = put_bass(&mut buffer, root, bass);
+    let end = put_above(&mut buffer, place, Pool { tones, count }, wanted(lead));
+    give(&buffer[..end], out)
+}
