@@ -2,7 +2,9 @@
  *
  * An answer at or above 0 is a success. Below 0 it is minus the number of a refusal:
  *   -1  the set is above 4095, or, except for the quality, without class 0
- *   -2  a root class is above 11
+ *   -2  a root or bass class is above 11
+ *   -3  more than 16 pairs of a note class and an interval are used
+ *   -4  a note class that is used is above 11, or an interval above 22
  *   -5  a letter is above 6, or an accidental outside -6..6
  *   -6  semitones are above 24, or the degree is 0 or above 14
  *   -7  the output is shorter than the whole answer
@@ -75,6 +77,18 @@ int64_t hemotusap_get_note(uint32_t letter, int32_t accidental, uint32_t semiton
 int64_t hemotusap_transpose(uint32_t from_letter, int32_t from_accidental,
                             uint32_t letter, int32_t accidental,
                             uint32_t to_letter, int32_t to_accidental);
+
+/* Writes a voicing of a chord: the keys to strike, a byte each. Its tones are pairs of a note
+ * class, 0..11, and an interval, 0..22 (1 b2 2 b3 3 4 #4 b5 5 #5 b6 6 bb7 7 Ma7 8 b9 9 #9 11 #11 b13
+ * 13), and as many pairs are used as the shorter range has; the rest is not looked at. First bass + 36
+ * and root + 48, or with no bass (255) root + 36; then the guides from the lowest up, the tensions from
+ * the highest down, and the lead: the key from 51 to 79 nearest to `lead` that a tone has, or to 79
+ * where `lead` is above 255; 0 where no tone may lead. Answers the bytes written, 2..35; no NUL
+ * follows them. Refuses: -2, -3, -4, -7. */
+int64_t hemotusap_voicing(uint32_t root, uint32_t bass,
+                          const uint8_t *classes, size_t class_count,
+                          const uint8_t *intervals, size_t interval_count,
+                          uint32_t lead, uint8_t *out, size_t room);
 
 #ifdef __cplusplus
 }

@@ -4,14 +4,11 @@
 use std::borrow::Cow;
 
 use crate::chord::interval::{IntervalSet, THIRDS_SET};
-use crate::chord::quality::Pc::{self, *};
-use crate::chord::quality::{ChordQuality, PcSet};
+use crate::chord::quality::{ChordQuality, Pc, PcSet};
 use crate::host;
 use crate::inference::descriptors_from_midi_codes;
 use crate::inference::normalize::normalized_descriptor;
 use crate::turns::{Times, in_turns};
-
-const CLASSES: [Pc; 12] = [Pc0, Pc1, Pc2, Pc3, Pc4, Pc5, Pc6, Pc7, Pc8, Pc9, Pc10, Pc11];
 
 /// More than any answer takes.
 const ROOM: usize = 1024;
@@ -39,7 +36,7 @@ pub fn candidates(lists: &[Vec<u8>]) -> Times {
 /// A set as the library takes it, and as the Rust does.
 pub struct Set {
     pub number: u32,
-    classes: PcSet,
+    pub classes: PcSet,
     codes: Vec<u8>,
 }
 
@@ -47,7 +44,10 @@ fn set(number: u32) -> Set {
     let codes: Vec<u8> = (0..12).filter(|at| number >> at & 1 == 1).collect();
     Set {
         number,
-        classes: codes.iter().map(|&at| CLASSES[at as usize]).collect(),
+        classes: codes
+            .iter()
+            .filter_map(|&code| PcSet::NUMBERED[code as usize])
+            .collect(),
         codes,
     }
 }
@@ -61,7 +61,7 @@ pub fn of_one_root(set: &Set) -> String {
     let mut classes = set.classes;
     let intervals: IntervalSet = classes.into();
     if intervals.intersection(&THIRDS_SET).is_empty() {
-        classes.insert(Pc4);
+        classes.insert(Pc::Pc4);
     }
     normalized_descriptor(intervals, (&classes).into())
 }

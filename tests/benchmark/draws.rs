@@ -1,4 +1,4 @@
-//! Lists of MIDI codes drawn by SplitMix64, the same in each run.
+//! Numbers and lists of MIDI codes drawn by SplitMix64, the same in each run.
 
 pub struct Draws(pub u64);
 
@@ -11,7 +11,7 @@ impl Draws {
         drawn ^ drawn >> 31
     }
 
-    fn below(&mut self, limit: usize) -> usize {
+    pub fn below(&mut self, limit: usize) -> usize {
         (self.next() % limit as u64) as usize
     }
 

@@ -4,6 +4,17 @@ unsafe extern "C" {
     fn hemotusap_suffix(set: u32, out: *mut u8, room: usize) -> i64;
     fn hemotusap_listing(suffix: *const u8, length: usize, out: *mut u8, room: usize) -> i64;
     fn hemotusap_candidates(codes: *const u8, count: usize, out: *mut u8, room: usize) -> i64;
+    fn hemotusap_voicing(
+        root: u32,
+        bass: u32,
+        classes: *const u8,
+        class_count: usize,
+        intervals: *const u8,
+        interval_count: usize,
+        lead: u32,
+        out: *mut u8,
+        room: usize,
+    ) -> i64;
     pub safe fn hemotusap_quality(set: u32) -> i64;
     pub safe fn hemotusap_get_note(
         letter: u32,
@@ -28,4 +39,30 @@ pub fn listing(suffix: &[u8], out: &mut [u8]) -> i64 {
 #[inline]
 pub fn candidates(codes: &[u8], out: &mut [u8]) -> i64 {
     unsafe { hemotusap_candidates(codes.as_ptr(), codes.len(), out.as_mut_ptr(), out.len()) }
+}
+
+/// A chord as the boundary takes it.
+pub struct Chord {
+    pub root: u32,
+    pub bass: u32,
+    pub classes: Vec<u8>,
+    pub intervals: Vec<u8>,
+    pub lead: u32,
+}
+
+#[inline]
+pub fn voicing(chord: &Chord, out: &mut [u8]) -> i64 {
+    unsafe {
+        hemotusap_voicing(
+            chord.root,
+            chord.bass,
+            chord.classes.as_ptr(),
+            chord.classes.len(),
+            chord.intervals.as_ptr(),
+            chord.intervals.len(),
+            chord.lead,
+            out.as_mut_ptr(),
+            out.len(),
+        )
+    }
 }

@@ -12,10 +12,17 @@ mod host;
 mod inference;
 mod listings;
 mod moves;
+#[path = "../oracle/notes.rs"]
+mod notes;
 #[allow(dead_code)]
 #[path = "../oracle/stand-ins/parsing.rs"]
 mod parsing;
+#[path = "../oracle/records.rs"]
+mod records;
 mod turns;
+mod voiced;
+#[path = "../../docs/src/src/voicings/mod.rs"]
+mod voicings;
 
 use chords::candidates;
 use draws::Draws;
@@ -49,6 +56,7 @@ fn main() {
     row("listing, all 1,171 suffixes", listings::every_suffix());
     row("listing, texts that no set has", listings::no_suffix());
     row("listing, longer than any suffix", listings::too_long());
+    row("voicing, chords of 3 to 8 tones", voiced::of_3_to_8());
     row("quality, 4,096 sets", chords::quality());
     row("get_note, 31,850 moves", moves::get_note());
 }

@@ -20,3 +20,9 @@ uint32_t draw_below(uint64_t *state, uint32_t limit)
 {
     return (uint32_t)((draw(state) >> 32) * limit >> 32);
 }
+
+uint32_t draw_set(uint64_t *state, unsigned limit)
+{
+    uint32_t whole = (UINT32_C(1) << limit) - 1;
+    return draw_below(state, 2) == 0 ? whole : 1 + draw_below(state, whole);
+}

@@ -2,7 +2,7 @@
 
 #include "draw.h"
 
-enum { OCTAVES = 21, SHORT = 16, ALL_CLASSES = (1 << CLASSES) - 1 };
+enum { OCTAVES = 21, SHORT = 16 };
 
 struct list list_of_set(uint32_t set, unsigned first)
 {
@@ -25,12 +25,11 @@ static uint8_t drawn_code(uint64_t *state, uint32_t classes)
     return code;
 }
 
-/* A list of codes at random has all twelve classes as soon as it is long. So that others come too,
-   half of the lists are short, and half keep to the classes of a set. */
+/* Half of the lists are short, since a long one at random has all twelve classes. */
 struct list drawn_list(uint64_t *state)
 {
     uint32_t longest = draw_below(state, 2) == 0 ? SHORT : LONGEST_DRAWN;
-    uint32_t classes = draw_below(state, 2) == 0 ? ALL_CLASSES : 1 + draw_below(state, ALL_CLASSES);
+    uint32_t classes = draw_set(state, CLASSES);
     struct list list = {.length = draw_below(state, longest + 1)};
     for (size_t at = 0; at < list.length; at++)
         list.codes[at] = drawn_code(state, classes);

@@ -30,6 +30,19 @@ int64_t note_in(const char *line)
     return note_number((struct note){(uint32_t)letter, (int32_t)count});
 }
 
+struct bytes bytes_in(const char *line)
+{
+    struct bytes bytes = {.length = 0};
+    const char *end = line + strlen(line);
+    for (const char *from = line; from <= end;) {
+        int64_t number = read_number(line, from, strchr(from, ' ') == NULL ? '\0' : ' ', &from);
+        if (number < 0 || number > UINT8_MAX || bytes.length == sizeof bytes.bytes)
+            fail("the oracle's line `%s` holds no bytes, or too many", line);
+        bytes.bytes[bytes.length++] = (uint8_t)number;
+    }
+    return bytes;
+}
+
 struct lines lines_in(const char *line)
 {
     struct lines lines = {.length = strlen(line)};

@@ -10,6 +10,14 @@ int64_t number_in(const char *line);
 /* `LETTER COUNT` as the library's number for that note. */
 int64_t note_in(const char *line);
 
+/* Bytes, a space between. */
+struct bytes {
+    size_t length;
+    uint8_t bytes[128];
+};
+
+struct bytes bytes_in(const char *line);
+
 /* Candidates as the library writes them, each ended by LF. */
 struct lines {
     int64_t count;

@@ -1,5 +1,6 @@
 /* quality: all sets by the oracle; the numbers above are refused. */
 #include "hemotusap.h"
+#include "numbers_above.h"
 #include "oracle_lines.h"
 #include "suite.h"
 
@@ -17,17 +18,14 @@ static void every_set(struct run *run)
 
 static void refused(struct run *run, int64_t set)
 {
-    if (set >= SETS && set <= UINT32_MAX)
-        expect_refusal(run, CALL("quality", set), hemotusap_quality((uint32_t)set), BAD_SET);
+    expect_refusal(run, CALL("quality", set), hemotusap_quality((uint32_t)set), BAD_SET);
 }
 
 static void sets_above(struct run *run)
 {
     for (int64_t set = SETS; set <= 70000; set++)
         refused(run, set);
-    for (int bit = 12; bit <= 32; bit++)
-        for (int64_t near = -1; near <= 1; near++)
-            refused(run, (INT64_C(1) << bit) + near);
+    numbers_above(run, SETS, refused);
 }
 
 const struct suite quality_suite = {"quality", every_set, sets_above};

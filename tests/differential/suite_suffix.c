@@ -4,6 +4,7 @@
 
 #include "hemotusap.h"
 #include "length.h"
+#include "numbers_above.h"
 #include "suite.h"
 #include "written.h"
 
@@ -37,12 +38,7 @@ static void sets_refused(struct run *run)
 {
     for (int64_t set = 0; set < SETS; set += 2)
         refused(run, set);
-    for (int bit = 12; bit <= 32; bit++)
-        for (int64_t near = -1; near <= 1; near++) {
-            int64_t set = (INT64_C(1) << bit) + near;
-            if (set >= SETS && set <= UINT32_MAX)
-                refused(run, set);
-        }
+    numbers_above(run, SETS, refused);
 }
 
 const struct suite suffix_suite = {"suffix", every_rooted_set, sets_refused};

@@ -5,6 +5,7 @@
 #include "draw.h"
 #include "hemotusap.h"
 #include "length.h"
+#include "numbers_above.h"
 #include "suite.h"
 #include "written.h"
 
@@ -53,18 +54,6 @@ static void refused(struct run *run, int64_t root, int64_t set, enum refusal wan
     static const size_t rooms[] = {0, 1, LONGEST};
     for (unsigned at = 0; at < LENGTH(rooms); at++)
         expect_unwritten_in(run, CALL("tones", root, set), write_tones, want, rooms[at]);
-}
-
-/* Around each power of two, so that a number cut to fewer bits shows. */
-static void numbers_above(struct run *run, int64_t least,
-                          void (*refuse)(struct run *run, int64_t number))
-{
-    for (int bit = 0; bit <= 32; bit++)
-        for (int64_t near = -1; near <= 1; near++) {
-            int64_t number = (INT64_C(1) << bit) + near;
-            if (number >= least && number <= UINT32_MAX)
-                refuse(run, number);
-        }
 }
 
 /* A root that is bad too changes nothing. */

@@ -5,7 +5,8 @@
 #include "suite.h"
 
 extern const struct suite quality_suite, get_note_suite, transpose_suite, note_text_suite,
-    suffix_suite, candidates_suite, listing_suite, tones_suite;
+    suffix_suite, candidates_suite, listing_suite, tones_suite,
+    voicing_suite;
 
 static const struct suite *const suites[] = {
     &quality_suite,
@@ -16,6 +17,7 @@ static const struct suite *const suites[] = {
     &candidates_suite,
     &listing_suite,
     &tones_suite,
+    &voicing_suite,
 };
 
 const struct suite *suite_named(const char *name)

@@ -10,9 +10,11 @@ mod chord;
 #[allow(dead_code)]
 #[path = "../../docs/src/src/inference/mod.rs"]
 mod inference;
+mod notes;
 mod numbers;
 #[path = "stand-ins/parsing.rs"]
 mod parsing;
+mod records;
 mod requests;
 mod tones;
 #[path = "../../docs/src/src/voicings/mod.rs"]

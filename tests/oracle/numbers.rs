@@ -6,7 +6,7 @@ pub fn counted(numbers: &[i64]) -> Result<(&[i64], &[i64]), String> {
     usize::try_from(*count)
         .ok()
         .and_then(|count| rest.split_at_checked(count))
-        .ok_or(format!("fewer than {count} numbers"))
+        .ok_or_else(|| format!("fewer than {count} numbers"))
 }
 
 pub fn end_of(numbers: &[i64]) -> Result<(), String> {
@@ -14,6 +14,16 @@ pub fn end_of(numbers: &[i64]) -> Result<(), String> {
         [] => Ok(()),
         _ => Err("numbers left over".to_string()),
     }
+}
+
+pub fn spaced(numbers: &[u8]) -> String {
+    let words: Vec<String> = numbers.iter().map(u8::to_string).collect();
+    words.join(" ")
+}
+
+/// A list behind its count, as requests have it.
+pub fn behind_count(list: &[u8]) -> Vec<u8> {
+    [&[list.len() as u8], list].concat()
 }
 
 pub fn unless(none: i64, number: i64) -> Option<i64> {
@@ -24,7 +34,7 @@ pub fn below(limit: usize, number: i64) -> Result<usize, String> {
     usize::try_from(number)
         .ok()
         .filter(|number| *number < limit)
-        .ok_or(format!("{number} is not below {limit}"))
+        .ok_or_else(|| format!("{number} is not below {limit}"))
 }
 
 pub fn byte(number: i64) -> Result<u8, String> {

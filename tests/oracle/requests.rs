@@ -6,52 +6,24 @@
 //! - `tones ROOT SET`: the notes of a rooted set's intervals, a space between
 //! - `get_note LETTER COUNT SEMITONES DEGREE`: `LETTER COUNT`
 //! - `transpose FROM.. NOTE.. TO..`, each `LETTER COUNT`: `LETTER COUNT`
-//! - `voicing ROOT BASS LEAD N CLASS.. M INTERVAL..` (bass 255, lead 256: none): the keys, a space between
+//! - `voicing ROOT BASS LEAD N CLASS.. M INTERVAL..` (bass 255, lead above 255: none): the keys, a space between
+//! - `set_voicing ROOT BASS LEAD SET`: `N CLASS.. M INTERVAL..` of the chord of a rooted set, then its keys
 //!
 //! A count of 0 is no modifier, in requests and in answers.
 
 use crate::chord::Chord;
-use crate::chord::interval::Interval::{self, *};
+use crate::chord::interval::{Interval, IntervalSet};
 use crate::chord::note::{Note, NoteLiteral, NoteModifier};
-use crate::chord::quality::Pc::{self, *};
 use crate::chord::quality::{ChordQuality, PcSet};
 use crate::inference::descriptors_from_midi_codes;
-use crate::numbers::{below, byte, bytes, counted, end_of, number, unless};
-use crate::tones;
+use crate::numbers::{behind_count, below, byte, bytes, counted, end_of, number, spaced, unless};
 use crate::voicings::generate_voicing;
+use crate::{notes, records, tones};
 
 type Answer = Result<String, String>;
 
 const NO_BASS: i64 = 255;
-const NO_LEAD: i64 = 256;
-
-const CLASSES: [Pc; 12] = [Pc0, Pc1, Pc2, Pc3, Pc4, Pc5, Pc6, Pc7, Pc8, Pc9, Pc10, Pc11];
-
-const INTERVALS: [Interval; 23] = [
-    Unison,
-    MinorSecond,
-    MajorSecond,
-    MinorThird,
-    MajorThird,
-    PerfectFourth,
-    AugmentedFourth,
-    DiminishedFifth,
-    PerfectFifth,
-    AugmentedFifth,
-    MinorSixth,
-    MajorSixth,
-    DiminishedSeventh,
-    MinorSeventh,
-    MajorSeventh,
-    Octave,
-    FlatNinth,
-    Ninth,
-    SharpNinth,
-    Eleventh,
-    SharpEleventh,
-    FlatThirteenth,
-    Thirteenth,
-];
+const LAST_LEAD: i64 = 255;
 
 pub fn answer(request: &str) -> Answer {
     let mut words = request.split(' ');
@@ -69,7 +41,12 @@ pub fn answer(request: &str) -> Answer {
             let moved = note(fl, fc)?.transpose(&note(l, c)?, &note(tl, tc)?);
             Ok(note_text(moved))
         }
-        ("voicing", &[root, bass, lead, ref lists @ ..]) => voicing(root, bass, lead, lists),
+        ("voicing", &[root, bass, lead, ref lists @ ..]) => {
+            Ok(spaced(&keys(&chord(root, bass, lists)?, lead)?))
+        }
+        ("set_voicing", &[root, bass, lead, set]) => {
+            set_voicing(&chord_of_set(root, bass, set)?, lead)
+        }
         _ => Err("no such request".to_string()),
     }
 }
@@ -95,29 +72,45 @@ fn candidates(list: &[i64]) -> Answer {
 
 fn tones(root: i64, set: i64) -> Answer {
     let set = pc_set(&rooted_classes_in(set)?);
-    tones::tones(below(12, root)? as u8, naturals_and_flats(), set)
+    tones::tones(below(12, root)? as u8, set)
 }
 
 fn get_note(from: Note, semitones: i64, degree: i64) -> Answer {
     Ok(note_text(from.get_note(byte(semitones)?, byte(degree)?)))
 }
 
-fn voicing(root: i64, bass: i64, lead: i64, lists: &[i64]) -> Answer {
+fn set_voicing(chord: &Chord, lead: i64) -> Answer {
+    let classes = behind_count(&records::classes(chord));
+    let intervals = behind_count(&records::intervals(chord));
+    Ok(spaced(&[classes, intervals, keys(chord, lead)?].concat()))
+}
+
+fn keys(chord: &Chord, lead: i64) -> Result<Vec<u8>, String> {
+    let lead = (lead <= LAST_LEAD).then_some(lead);
+    Ok(generate_voicing(chord, lead.map(byte).transpose()?))
+}
+
+fn chord(root: i64, bass: i64, lists: &[i64]) -> Result<Chord, String> {
     let (classes, behind) = counted(lists)?;
     let (intervals, behind) = counted(behind)?;
     end_of(behind)?;
-    let notes = classes.iter().map(|&c| note_of_class(c));
-    let chord = Chord::builder("", note_of_class(root)?)
-        .bass(unless(NO_BASS, bass).map(note_of_class).transpose()?)
-        .notes(notes.collect::<Result<_, _>>()?)
-        .normalized_intervals(intervals.iter().map(interval).collect::<Result<_, _>>()?)
-        .build();
-    let lead = unless(NO_LEAD, lead).map(byte).transpose()?;
-    let keys: Vec<String> = generate_voicing(&chord, lead)
-        .iter()
-        .map(u8::to_string)
-        .collect();
-    Ok(keys.join(" "))
+    let notes = classes.iter().map(|&class| note_of_class(class));
+    let intervals = intervals.iter().map(interval);
+    Ok(records::record(
+        note_of_class(root)?,
+        bass_note(bass)?,
+        notes.collect::<Result<_, _>>()?,
+        intervals.collect::<Result<_, _>>()?,
+    ))
+}
+
+fn chord_of_set(root: i64, bass: i64, set: i64) -> Result<Chord, String> {
+    let set = pc_set(&rooted_classes_in(set)?);
+    Ok(records::of_set(note_of_class(root)?, bass_note(bass)?, set))
+}
+
+fn bass_note(bass: i64) -> Result<Option<Note>, String> {
+    unless(NO_BASS, bass).map(note_of_class).transpose()
 }
 
 fn note(letter: i64, count: i64) -> Result<Note, String> {
@@ -132,22 +125,13 @@ fn note_text(note: Note) -> String {
     format!("{} {count}", note.literal as u8)
 }
 
-/// Any note of the class will do: voicings see a note through `to_semitone` alone.
 fn note_of_class(class: i64) -> Result<Note, String> {
-    let class = below(12, class)? as u8;
-    naturals_and_flats()
-        .find(|note| note.to_semitone() == class)
-        .ok_or(format!("no note of class {class}"))
-}
-
-fn naturals_and_flats() -> impl Iterator<Item = Note> {
-    (0..7)
-        .flat_map(|letter| [note(letter, 0), note(letter, -1)])
-        .flatten()
+    notes::of_class(byte(class)?)
 }
 
 fn interval(number: &i64) -> Result<Interval, String> {
-    Ok(INTERVALS[below(INTERVALS.len(), *number)?])
+    IntervalSet::NUMBERED[below(IntervalSet::NUMBERED.len(), *number)?]
+        .ok_or_else(|| format!("no interval {number}"))
 }
 
 fn classes_in(set: i64) -> Result<Vec<u8>, String> {
@@ -164,14 +148,6 @@ fn rooted_classes_in(set: i64) -> Result<Vec<u8>, String> {
 }
 
 fn pc_set(classes: &[u8]) -> PcSet {
-    classes.iter().map(|&at| CLASSES[at as usize]).collect()
+    let numbered = classes.iter().map(|&class| PcSet::NUMBERED[class as usize]);
+    numbered.flatten().collect()
 }
-
-// The numbering of intervals in requests is the declaration's own.
-const _: () = {
-    let mut at = 0;
-    while at < INTERVALS.len() {
-        assert!(INTERVALS[at] as usize == at);
-        at += 1;
-    }
-};

@@ -11,6 +11,7 @@ use Rattle.hemotusap.proofs.symbols.hemotusap_listing.Reads as listing
 use Rattle.hemotusap.proofs.symbols.hemotusap_tones.Reads as tones
 use Rattle.hemotusap.proofs.symbols.hemotusap_candidates.Reads as candidates
 use Rattle.hemotusap.proofs.symbols.hemotusap_candidate_count.Reads as candidate-count
+use Rattle.hemotusap.proofs.voices.hemotusap_voicing.Reads as voicing
 
 pub quality-decides : Decides quality.Post
 quality-decides κs a r r′ s s′ = determined
@@ -38,3 +39,6 @@ listing-decides κs a r r′ s s′ = both
 
 pub tones-decides : DecidesWith tones.Post (λ κs s. now (s .1 .1 .0))
 tones-decides κs a r r′ s s′ = both
+
+pub voicing-decides : DecidesWith voicing.Post (λ κs s. now (s .1 .1 .1 .1 .1 .0))
+voicing-decides κs a r r′ s s′ = both

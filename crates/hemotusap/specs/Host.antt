@@ -3,8 +3,12 @@
 --     minus                minus a refusal's number, numbered as `number` says
 --     refusalNumber        a refusal, numbered as paper 01 has it
 --     outputNumber, qualityNumber, noteNumber, noteAnswerNumber     the answers
+--     bassFrom, leadFrom   "There bass 255 means none, and a lead above 255 means none"
+--     chordFrom            a chord record of the host's numbers
 --     Fits                 an answer's count of bytes is one that a host's 64 bits hold
+use mathlib.Core.Bool.{cond}
 use Prim.Native.Nat.{ℕ, _+_, _*_, _^_, _<_}
+use lib.Dec.{eqb, leb}
 use lib.IntN.{ℤ, pos, negℤ, _+ℤ_}
 use Rattle.answer.specs.Refusals.{numberOf}
 use Rattle.answer.specs.declared.refusal.Refusal.{Refusal}
@@ -17,6 +21,11 @@ use Rattle.chord.specs.declared.note.NoteAnswer.{NoteAnswer}
 use Rattle.chord.specs.declared.note.NoteAnswer.the-variants as Moved
 use Rattle.chord.specs.declared.quality.QualityAnswer.{QualityAnswer}
 use Rattle.chord.specs.declared.quality.QualityAnswer.the-variants as Quality
+use Rattle.voicings.specs.declared.voicing.Bass.{Bass}
+use Rattle.voicings.specs.declared.voicing.Bass.the-variants as Bass
+use Rattle.voicings.specs.declared.voicing.Lead.{Lead}
+use Rattle.voicings.specs.declared.voicing.Lead.the-variants as Lead
+use Rattle.voicings.specs.declared.voicing.Chord.{Chord}
 
 abbrev pub minus : (Refusal → ℕ) → Refusal → ℤ
 minus number why = negℤ (pos (number why))
@@ -38,6 +47,15 @@ noteNumber n = pos (16 * n .letter + 6) +ℤ countOf (n .accidental)
 abbrev pub noteAnswerNumber : NoteAnswer → ℤ
 noteAnswerNumber (Moved.Is n) = noteNumber n
 noteAnswerNumber (Moved.Refused why) = refusalNumber why
+
+abbrev pub bassFrom : ℕ → Bass
+bassFrom bass = cond (eqb bass 255) Bass.None (Bass.Class bass)
+
+abbrev pub leadFrom : ℕ → Lead
+leadFrom lead = cond (leb lead 255) (Lead.Key lead) Lead.None
+
+abbrev pub chordFrom : ℕ → ℕ → ℕ → Chord
+chordFrom root bass lead = record { root = root; bass = bassFrom bass; lead = leadFrom lead }
 
 abbrev pub Fits : Output → Type 0
 Fits (Output.Written n) = n < 2 ^ 63

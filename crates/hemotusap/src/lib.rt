@@ -4,3 +4,4 @@ mod host;
 pub mod moves;
 pub mod names;
 pub mod symbols;
+pub mod voices;

@@ -9,3 +9,4 @@ pub mod Owned
 pub mod Placing
 pub mod Few
 pub mod Replied
+pub mod Determined

@@ -9,7 +9,7 @@ VISIBILITY struct ELEMENTSet(u32);
 
 impl ELEMENTSet {
     // By number, which need not be the place in the declaration.
-    const NUMBERED: [Option<ELEMENT>; 32] = {
+    pub const NUMBERED: [Option<ELEMENT>; 32] = {
         let declared = [VARIANTS];
         let mut numbered = [None; 32];
         let mut at = 0;

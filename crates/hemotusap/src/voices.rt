@@ -1,0 +1,53 @@
+// Voicings for the host.
+use crate::host::written;
+use voicings::voicing::Bass;
+use voicings::voicing::Chord;
+use voicings::voicing::Lead;
+use voicings::voicing::voicing;
+ghost use mathlib.Core.Path.{_≡_};
+ghost use Rattle.answer.specs.Replies.{outputOf, roomAfter};
+ghost use Rattle.voicings.specs.Voicing.{lowestKey, highestKey, voicingReply};
+ghost use Rattle.hemotusap.specs.Host.{outputNumber, bassFrom, leadFrom, chordFrom};
+
+// What the host gives for no bass.
+const NO_BASS: u32 = 255;
+
+// The last lead: what is above it is none.
+const LAST_LEAD: u32 = 255;
+
+fn bass_from(bass: u32) -> Bass
+    ensures { λ r. ⌜ r ≡ bassFrom bass ⌝ }
+{
+    if bass == NO_BASS {
+        return Bass::None;
+    }
+    Bass::Class(bass)
+}
+
+fn lead_from(lead: u32) -> Lead
+    ensures { λ r. ⌜ r ≡ leadFrom lead ⌝ }
+{
+    if lead > LAST_LEAD {
+        return Lead::None;
+    }
+    Lead::Key(lead as u8)
+}
+
+#[no_mangle]
+pub extern "C" fn hemotusap_voicing(
+    root: u32,
+    bass: u32,
+    classes: &[u8],
+    intervals: &[u8],
+    lead: u32,
+    out: &mut [u8],
+) -> i64
+    ensures { λ r. ⌜ (r ≡ outputNumber (outputOf (voicingReply lowestKey highestKey (chordFrom root bass lead) (now (classes .entry)) (now (intervals .entry))) (now (out .entry)))) × (now (out .exit) ≡ roomAfter (voicingReply lowestKey highestKey (chordFrom root bass lead) (now (classes .entry)) (now (intervals .entry))) (now (out .entry))) ⌝ }
+{
+    let chord = Chord {
+        root,
+        bass: bass_from(bass),
+        lead: lead_from(lead),
+    };
+    written(voicing(chord, classes, intervals, out))
+}
