@@ -8,7 +8,7 @@ use native.Mathlib.Omega.{arith}
 use lib.Count.{ones, onesIn}
 use Rattle.chord.specs.Sets.{has, countBelow, classCount}
 use Rattle.chord.proofs.FirstRule.{ones-in}
-use Rattle.candidates.proofs.Members.{held, absent}
+use Rattle.chord.proofs.Members.{held, absent}
 
 -- the highest of so many digits, apart
 ones-top : (k s : ℕ) → onesIn (suc k) s ≡ onesIn k s + s / 2 ^ k % 2

@@ -19,7 +19,7 @@ use lib.Pow.{pow-lt}
 use borrow.Author.Tests.{eq-eqb, eqb-true}
 use Rattle.chord.specs.Sets.{has}
 use Rattle.candidates.specs.Keys.{keyClass, gathered, classSet, fresh, firsts, isHeard}
-use Rattle.candidates.proofs.Members.{joined-less, joined-ones, joined-has}
+use Rattle.chord.proofs.Members.{joined-less, joined-ones, joined-has}
 use Rattle.candidates.proofs.Firsts.{gathered-old, gathered-new, fresh-old, fresh-new}
 
 -- a class that is in the set already adds nothing

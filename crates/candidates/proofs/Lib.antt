@@ -1,4 +1,3 @@
-pub mod Members
 pub mod Firsts
 pub mod Turned
 pub mod Heard

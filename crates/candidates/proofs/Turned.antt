@@ -13,7 +13,7 @@ use lib.Pow.{shl-exact, pow-pos}
 use borrow.Author.Tests.{eqb-true}
 use Rattle.chord.specs.Sets.{has}
 use Rattle.candidates.specs.Keys.{seenBelow, seenFrom}
-use Rattle.candidates.proofs.Members.{held, absent}
+use Rattle.chord.proofs.Members.{held, absent}
 
 -- a class's digit, moved to its new place
 digit : (s j k : ℕ) → s / 2 ^ j % 2 * 2 ^ k ≡ cond (has s j) (2 ^ k) 0

@@ -4,3 +4,4 @@ pub mod Counts
 pub mod Moves
 pub mod Names
 pub mod Determined
+pub mod Members

@@ -1,59 +1,146 @@
--- A climb over the keys of a tone, by twelves: the best of what was found and of the keys that are left is the best of all.
---     Climbing       the state of the climb, with the steps that it has left
---     begin, place, pass, reached    its beginning, a turn at a key of the range, one below it, and its end
-use mathlib.Core.Path.{_≡_, refl, sym, ap, _∙_}
+-- A climb over the keys of a tone, from its lowest up by twelves: the next key is nearer to the wanted one exactly where that is beyond
+-- half the way to it, and from the first that is not, none is.
+--     Climbing       a key is the best so far, with the steps that are left
+--     begin, turn    the lowest key, and the next
+--     stopped        where the next is not below the limit, or not nearer, the key is the best of all
+--     no-key         where the lowest is not below the limit there is none
+use mathlib.Core.Path.{_≡_, refl, sym, ap, ap₂, subst, _∙_}
 use mathlib.Core.Bool.{Bool, true, false, cond, _&&_}
 use mathlib.Core.List.{List, [], _∷_, map}
-use Prim.Native.Nat.{ℕ, zero, suc, _+_, _*_, _≤_, _<_}
+use Prim.Native.Nat.{ℕ, zero, suc, _+_, _*_, _-_, _≤_, _<_}
+use native.Mathlib.Decide.{decLt}
 use native.Mathlib.Omega.{arith}
-use lib.Dec.{leb, ltb}
+use lib.Dec.{T, leb, ltb}
 use borrow.Author.Tests.{lt-ltb, le-ltb, lt-leb, le-leb}
 use Rattle.voicings.specs.declared.offers.Offer.{Offer}
-use Rattle.voicings.specs.Choice.{keysFrom, offer, nothing, sooner, best}
+use Rattle.voicings.specs.Choice.{keysFrom, distance, offer, nothing, sooner, best}
+use Rattle.voicings.specs.Offered.{firstKey}
 
-module _ (lowest limit wanted interval : ℕ) where
+-- how far a wanted key is from another, by which is the greater
+under : (w k : ℕ) → w < k → distance w k ≡ k - w
+under w k h = rw (lt-ltb w k h)
+
+over : (w k : ℕ) → k ≤ w → distance w k ≡ w - k
+over w k h = rw (le-ltb w k h)
+
+no-nearer : (w key k : ℕ) → w ≤ key + 6 → key + 12 ≤ k → distance w key ≤ distance w k
+no-nearer w key k near far = by-order (decLt w key)
+  where
+    by-order : Dec (w < key) → distance w key ≤ distance w k
+    by-order (yes h) = rw (under w key h, under w k (omega arith)) (omega arith)
+    by-order (no h) = rw (over w key (omega arith), under w k (omega arith)) (omega arith)
+
+nearer : (w key : ℕ) → key + 6 < w → distance w (key + 12) < distance w key
+nearer w key h = by-order (decLt w (key + 12))
+  where
+    by-order : Dec (w < key + 12) → distance w (key + 12) < distance w key
+    by-order (yes k) = rw (under w (key + 12) k, over w key (omega arith)) (omega arith)
+    by-order (no k) = rw (over w (key + 12) (omega arith), over w key (omega arith)) (omega arith)
+
+known : (w key : ℕ) → w ≤ 255 → 51 ≤ key → key < 255 → distance w key < 255
+known w key hw low h = by-order (decLt w key)
+  where
+    by-order : Dec (w < key) → distance w key < 255
+    by-order (yes k) = rw (under w key k) (omega arith)
+    by-order (no k) = rw (over w key (omega arith)) (omega arith)
+
+module _ (limit wanted interval : ℕ) where
   -- the best of what was found and of n steps from a key on
   abbrev pub bestFrom : Offer → ℕ → ℕ → Offer
-  bestFrom found n key = best found (map (offer wanted interval) (keysFrom lowest limit n key))
+  bestFrom found n key = best found (map (offer wanted interval) (keysFrom 51 limit n key))
 
-  pub record Climbing (first : ℕ) (found : Offer) (key : ℕ) : Type 0 where
-    pub steps : ℕ
-    pub reach : key + 12 * steps ≡ first + 216
-    pub whole : bestFrom found steps key ≡ bestFrom (nothing interval) 18 first
+  and-false : (b : Bool) → b && false ≡ false
+  and-false true = refl
+  and-false false = refl
 
-  pub begin : (first : ℕ) → Climbing first (nothing interval) first
-  begin first = record { steps = 18; reach = refl; whole = refl }
-
-  past-left : (b : Bool) → b && false ≡ false
-  past-left true = refl
-  past-left false = refl
-
-  past : (n key : ℕ) → limit ≤ key → keysFrom lowest limit n key ≡ []
+  past : (n key : ℕ) → limit ≤ key → keysFrom 51 limit n key ≡ []
   unfolding keysFrom
   past zero key h = refl
-  past (suc n) key h =
-      ap (λ (b : Bool). cond (leb lowest key && b) (key ∷ keysFrom lowest limit n (key + 12)) (keysFrom lowest limit n (key + 12))) (le-ltb key limit h)
-      ∙ ap (λ (b : Bool). cond b (key ∷ keysFrom lowest limit n (key + 12)) (keysFrom lowest limit n (key + 12))) (past-left (leb lowest key))
-      ∙ past n (key + 12) (omega arith)
+  past (suc n) key h = rw (le-ltb key limit h, and-false (leb 51 key)) (past n (key + 12) (omega arith))
 
-  module _ (first : ℕ) (found : Offer) (key : ℕ) (far : limit ≤ first + 216) (below : key < limit) where
-    pub place : lowest ≤ key → Climbing first found key → Climbing first (sooner found (offer wanted interval key)) (key + 12)
-    unfolding keysFrom best
-    place within c = go (c .steps) (c .reach) (c .whole)
-      where
-        go : (n : ℕ) → key + 12 * n ≡ first + 216 → bestFrom found n key ≡ bestFrom (nothing interval) 18 first
-            → Climbing first (sooner found (offer wanted interval key)) (key + 12)
-        go zero e w = absurd (let no-way : ⊥ = omega arith in no-way)
-        go (suc n) e w = record { steps = n; reach = omega arith; whole = sym (rw (le-leb lowest key within, lt-ltb key limit below)) ∙ w }
-
-    pub pass : key < lowest → Climbing first found key → Climbing first found (key + 12)
-    unfolding keysFrom best
-    pass less c = go (c .steps) (c .reach) (c .whole)
-      where
-        go : (n : ℕ) → key + 12 * n ≡ first + 216 → bestFrom found n key ≡ bestFrom (nothing interval) 18 first → Climbing first found (key + 12)
-        go zero e w = absurd (let no-way : ⊥ = omega arith in no-way)
-        go (suc n) e w = record { steps = n; reach = omega arith; whole = sym (rw (lt-leb lowest key less)) ∙ w }
-
-  pub reached : (first : ℕ) (found : Offer) (key : ℕ) → limit ≤ key → Climbing first found key → found ≡ bestFrom (nothing interval) 18 first
+  nothing-past : (found : Offer) (n key : ℕ) → limit ≤ key → bestFrom found n key ≡ found
   unfolding best
-  reached first found key h c = sym (ap (λ (l : List ℕ). best found (map (offer wanted interval) l)) (past (c .steps) key h)) ∙ c .whole
+  nothing-past found n key h = ap (λ (l : List ℕ). best found (map (offer wanted interval) l)) (past n key h)
+
+  stays : (n key k : ℕ) → wanted ≤ key + 6 → key + 12 ≤ k → bestFrom (offer wanted interval key) n k ≡ offer wanted interval key
+  unfolding best keysFrom
+  stays zero key k near far = refl
+  stays (suc n) key k near far = by-case (leb 51 k && ltb k limit) (stays n key (k + 12) near (omega arith))
+    where
+      by-case : (b : Bool) → bestFrom (offer wanted interval key) n (k + 12) ≡ offer wanted interval key
+          → best (offer wanted interval key) (map (offer wanted interval) (cond b (k ∷ keysFrom 51 limit n (k + 12)) (keysFrom 51 limit n (k + 12)))) ≡ offer wanted interval key
+      by-case true rest =
+          ap (λ (b : Bool). best (cond b (offer wanted interval k) (offer wanted interval key)) (map (offer wanted interval) (keysFrom 51 limit n (k + 12)))) (le-ltb (distance wanted k) (distance wanted key) (no-nearer wanted key k near far))
+          ∙ rest
+      by-case false rest = rest
+
+  -- a key of the range is looked at, one below it is passed
+  looks : (found : Offer) (n key : ℕ) → 51 ≤ key → key < limit → bestFrom found (suc n) key ≡ bestFrom (sooner found (offer wanted interval key)) n (key + 12)
+  unfolding best keysFrom
+  looks found n key low h = rw (le-leb 51 key low, lt-ltb key limit h)
+
+  passes : (found : Offer) (n key : ℕ) → key < 51 → bestFrom found (suc n) key ≡ bestFrom found n (key + 12)
+  unfolding keysFrom
+  passes found n key h = rw (lt-leb 51 key h)
+
+  pub record Climbing (class key : ℕ) : Type 0 where
+    pub steps : ℕ
+    pub reach : key + 12 + 12 * steps ≡ 48 + class + 216
+    pub low : 51 ≤ key
+    pub whole : bestFrom (offer wanted interval key) steps (key + 12) ≡ bestFrom (nothing interval) 18 (48 + class)
+
+  pub no-key : (class : ℕ) → limit ≤ firstKey class → nothing interval ≡ bestFrom (nothing interval) 18 (48 + class)
+  no-key class h = by-order (decLt (48 + class) 51) h
+    where
+      by-order : Dec (48 + class < 51) → limit ≤ firstKey class → nothing interval ≡ bestFrom (nothing interval) 18 (48 + class)
+      by-order (yes below) h =
+          let top : limit ≤ 48 + class + 12 = rw (lt-ltb (48 + class) 51 below) at h in
+          sym (passes (nothing interval) 17 (48 + class) below ∙ nothing-past (nothing interval) 17 (48 + class + 12) top)
+      by-order (no above) h =
+          let from : 51 ≤ 48 + class = omega arith in
+          let top : limit ≤ 48 + class = rw (le-ltb (48 + class) 51 from) at h in
+          sym (nothing-past (nothing interval) 18 (48 + class) top)
+
+  module _ (class : ℕ) (byte : wanted ≤ 255) (bytes : limit ≤ 255) where
+    -- the lowest key is the best so far
+    first : (n key : ℕ) → 51 ≤ key → key < limit → bestFrom (offer wanted interval key) n (key + 12) ≡ bestFrom (nothing interval) (suc n) key
+    first n key low h = sym (looks (nothing interval) n key low h ∙ rw (lt-ltb (distance wanted key) 255 (known wanted key byte low (omega arith))))
+
+    pub begin : firstKey class < limit → Climbing class (firstKey class)
+    begin h = by-order (decLt (48 + class) 51) h
+      where
+        by-order : Dec (48 + class < 51) → firstKey class < limit → Climbing class (firstKey class)
+        by-order (yes below) h =
+            let e = lt-ltb (48 + class) 51 below in
+            let top : 48 + class + 12 < limit = rw e at h in
+            rw e (record { steps = 16; reach = omega arith; low = omega arith; whole = first 16 (48 + class + 12) (omega arith) top ∙ sym (passes (nothing interval) 17 (48 + class) below) })
+        by-order (no above) h =
+            let from : 51 ≤ 48 + class = omega arith in
+            let e = le-ltb (48 + class) 51 from in
+            let top : 48 + class < limit = rw e at h in
+            rw e (record { steps = 17; reach = omega arith; low = from; whole = first 17 (48 + class) from top })
+
+    pub turn : (key : ℕ) → key + 12 < limit → key + 6 < wanted → Climbing class key → Climbing class (key + 12)
+    turn key top far c = go (c .steps) (c .reach) (c .whole)
+      where
+        go : (n : ℕ) → key + 12 + 12 * n ≡ 48 + class + 216 → bestFrom (offer wanted interval key) n (key + 12) ≡ bestFrom (nothing interval) 18 (48 + class)
+            → Climbing class (key + 12)
+        go zero e w = absurd (let no-way : ⊥ = omega arith in no-way)
+        go (suc n) e w =
+            record {
+              steps = n;
+              reach = omega arith;
+              low = omega (arith, c .low);
+              whole =
+                  sym (looks (offer wanted interval key) n (key + 12) (omega (arith, c .low)) top
+                  ∙ rw (lt-ltb (distance wanted (key + 12)) (distance wanted key) (nearer wanted key far)))
+                  ∙ w;
+            }
+
+    pub stopped : (key : ℕ) → ltb (key + 12) limit && ltb (key + 6) wanted ≡ false → Climbing class key → offer wanted interval key ≡ bestFrom (nothing interval) 18 (48 + class)
+    stopped key halt c = by-order (decLt (key + 12) limit) (decLt (key + 6) wanted) halt
+      where
+        by-order : Dec (key + 12 < limit) → Dec (key + 6 < wanted) → ltb (key + 12) limit && ltb (key + 6) wanted ≡ false → offer wanted interval key ≡ bestFrom (nothing interval) 18 (48 + class)
+        by-order (yes h) (yes k) e = absurd (subst T (ap₂ _&&_ (sym (lt-ltb (key + 12) limit h)) (sym (lt-ltb (key + 6) wanted k)) ∙ e) tt)
+        by-order (yes h) (no k) e = sym (stays (c .steps) key (key + 12) (omega arith) (omega arith)) ∙ c .whole
+        by-order (no h) k e = sym (nothing-past (offer wanted interval key) (c .steps) (key + 12) (omega arith)) ∙ c .whole

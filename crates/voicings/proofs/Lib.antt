@@ -6,6 +6,7 @@ pub mod Order
 pub mod Best
 pub mod Climb
 pub mod Owned
+pub mod Kept
 pub mod Placing
 pub mod Few
 pub mod Replied

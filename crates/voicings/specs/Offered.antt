@@ -1,23 +1,33 @@
 -- Offers as the code holds them: one for each tone, its best.
+--     firstKey      the lowest key of a class from 51 on
 --     nearestOf     a tone's best offer, or rank 255 where it has no key
 --     offersIn      the offers of a run as the code has it
+--     keep          the offers of the intervals of a set
 --     otherOffers   the offers of other intervals
 --     placedOffers  the keys of some offers, the best first, each with all of its interval
 use mathlib.Core.Bool.{cond}
 use mathlib.Core.List.{List, [], _∷_}
-use Prim.Native.Nat.{ℕ, zero, suc}
-use lib.Dec.{eqb}
+use Prim.Native.Nat.{ℕ, zero, suc, _+_}
+use lib.Dec.{eqb, ltb}
 use lib.ListN.{take}
+use Rattle.chord.specs.Sets.{has}
 use Rattle.voicings.specs.declared.pool.Tone.{Tone}
 use Rattle.voicings.specs.declared.offers.Offer.{Offer}
 use Rattle.voicings.specs.declared.offers.Offers.{Offers}
 use Rattle.voicings.specs.Choice.{nothing, best, offersOf}
+
+abbrev pub firstKey : ℕ → ℕ
+firstKey class = cond (ltb (48 + class) 51) (48 + class + 12) (48 + class)
 
 unfoldable pub nearestOf : ℕ → ℕ → ℕ → Tone → Offer
 nearestOf lowest limit wanted t = best (nothing (t .interval)) (offersOf lowest limit wanted t)
 
 abbrev pub offersIn : Offers → List Offer
 offersIn run = take (run .count) (run .list)
+
+unfoldable pub keep : ℕ → List Offer → List Offer
+keep set [] = []
+keep set (o ∷ more) = cond (has set (o .interval)) (o ∷ keep set more) (keep set more)
 
 unfoldable pub otherOffers : ℕ → List Offer → List Offer
 otherOffers i [] = []

@@ -1,8 +1,10 @@
 // The lead: the key of an unbarred tone that is nearest to the wanted one, and what the pool is once it has left.
+use crate::bits::in_set;
 use crate::bits::take_out;
-use crate::offers::best;
 use crate::offers::distance;
-use crate::offers::offered;
+use crate::offers::nearest;
+use crate::offers::nothing;
+use crate::offers::sooner;
 use crate::pool::Pool;
 use crate::pool::Tone;
 use crate::range::HIGHEST;
@@ -60,14 +62,22 @@ fn unbarred(pool: Pool) -> u32
     free
 }
 
-// The lead, or 0 where every tone is barred.
+// The lead: the nearest key of an unbarred tone, or 0 where every tone is barred.
 pub(crate) fn lead_key(pool: Pool, wanted: u8) -> u8
     requires { ⌜ (length (pool .tones) ≡ 16) × (pool .count ≤ 16) ⌝ }
     ensures { λ r. ⌜ r ≡ leadOf 51 79 wanted (tonesIn pool) ⌝ }
 {
-    let choice = offered(pool, unbarred(pool), 0, wanted, LIMIT);
-    let nearest = best(choice);
-    nearest.key
+    let free = unbarred(pool);
+    let mut found = nothing(0);
+    let mut i = 0;
+    while i < pool.count {
+        let tone = pool.tones[i];
+        if in_set(free, tone.interval) {
+            found = sooner(found, nearest(tone, wanted, LIMIT));
+        }
+        i += 1;
+    }
+    found.key
 }
 
 fn owns(tone: Tone, key: u8) -> bool

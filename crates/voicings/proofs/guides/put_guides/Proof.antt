@@ -1,18 +1,30 @@
 -- `voicings::guides::put_guides` meets its contract: the guides' offers are placed.
-use mathlib.Core.Path.{_≡_, sym}
+use mathlib.Core.Path.{_≡_, sym, ap, _∙_}
 use Prim.Native.Nat.{ℕ, _≤_}
 use native.Mathlib.Omega.{arith}
 use borrow.Author.Needs.{needs}
 use Rattle.answer.proofs.Writing.{same-text}
 use Rattle.chord.specs.Intervals.{setOf}
 use Rattle.voicings.specs.Pool.{tonesIn}
+use Rattle.voicings.specs.Offered.{keep}
 use Rattle.voicings.specs.Guides.{sixths, sevenths, guides}
+use Rattle.voicings.proofs.Kept.{keep-all}
 use Rattle.voicings.proofs.Placing.{IsRun, guide-keys}
 use Rattle.voicings.proofs.guides.put_guides.Statement.{statement}
 use Rattle.voicings.proofs.guides.put_guides.Tie as tie
 
 isRun : (c : tie.After-offered) → IsRun (c .offered .result)
 isRun c = (c .offered .ensures .0, omega (arith, c .offered .ensures .1, c .before .before .before .before .before .before .pre .1))
+
+put-placed-requires : tie.Need-put-placed-requires
+put-placed-requires c κs =
+    let s = c .before .before .before .before .before .before in
+    let are = c .offered .ensures .2 in (
+      isRun c .0,
+      isRun c .1,
+      omega (arith, c .offered .ensures .1, s .pre .1, s .pre .2),
+      ap (keep 0xffff_ffff) are ∙ keep-all 51 80 0 13048 (c .before .before .guide-once .result) (tonesIn (s .args .pool)) (omega arith) (search needs) ∙ sym are,
+    )
 
 returns : tie.Need-returns
 unfolding sixths sevenths guides setOf
@@ -33,6 +45,6 @@ put-guides-spec =
     (λ c κs. search needs)
     (λ c κs. search needs)
     (λ c κs. search needs)
-    (λ c κs. (isRun c .0, isRun c .1, omega (arith, c .offered .ensures .1, c .before .before .before .before .before .before .pre .1, c .before .before .before .before .before .before .pre .2)))
+    put-placed-requires
     (λ c. search needs)
     returns)

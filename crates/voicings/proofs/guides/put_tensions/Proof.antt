@@ -1,5 +1,5 @@
 -- `voicings::guides::put_tensions` meets its contract: the tensions' offers are placed.
-use mathlib.Core.Path.{_≡_, sym}
+use mathlib.Core.Path.{_≡_, sym, ap, _∙_}
 use Prim.Native.Nat.{ℕ, _≤_}
 use native.Mathlib.Omega.{arith}
 use lib.ListN.{length}
@@ -8,13 +8,25 @@ use borrow.Author.Needs.{needs}
 use Rattle.answer.proofs.Writing.{same-text}
 use Rattle.chord.specs.Intervals.{setOf}
 use Rattle.voicings.specs.Pool.{tonesIn}
+use Rattle.voicings.specs.Offered.{keep}
 use Rattle.voicings.specs.Guides.{sixths, sevenths, tensions}
+use Rattle.voicings.proofs.Kept.{keep-all}
 use Rattle.voicings.proofs.Placing.{IsRun, tension-keys}
 use Rattle.voicings.proofs.guides.put_tensions.Statement.{statement}
 use Rattle.voicings.proofs.guides.put_tensions.Tie as tie
 
 isRun : (c : tie.After-offered) → IsRun (c .offered .result)
 isRun c = (c .offered .ensures .0, omega (arith, c .offered .ensures .1, c .before .before .before .before .before .before .pre .1))
+
+put-placed-requires : tie.Need-put-placed-requires
+put-placed-requires c κs =
+    let s = c .before .before .before .before .before .before in
+    let are = c .offered .ensures .2 in (
+      isRun c .0,
+      isRun c .1,
+      omega (arith, c .offered .ensures .1, s .pre .1, s .pre .2),
+      ap (keep 0xffff_ffff) are ∙ keep-all 51 (s .args .lead) (s .args .lead) 8323072 (c .before .before .tension-once .result) (tonesIn (s .args .pool)) (omega arith) (search needs) ∙ sym are,
+    )
 
 returns : tie.Need-returns
 unfolding sixths sevenths tensions setOf
@@ -37,6 +49,6 @@ put-tensions-spec =
     (λ c κs. search needs)
     (λ c κs. search needs)
     (λ c κs. search needs)
-    (λ c κs. (isRun c .0, isRun c .1, omega (arith, c .offered .ensures .1, c .before .before .before .before .before .before .pre .1, c .before .before .before .before .before .before .pre .2)))
+    put-placed-requires
     (λ c. search needs)
     returns)

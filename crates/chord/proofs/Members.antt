@@ -1,26 +1,25 @@
 -- A set with a class put in that it had not: what is in it, how many they are, and how large it is.
 --     held, absent    the digit of a class that is in a set, and of one that is not
 --     present, missing     and from the digit to the class
---     bit-held        the bit of a key's class, as the code shifts it
 --     joined          putting it in is a bitwise or
 --     joined-less     the set stays below the same power of two
 --     joined-ones     it has one class more
 --     joined-has      and that class beside its own
+--     taken-has       a set with a class taken out that it had: it has the others
 use mathlib.Core.Path.{_≡_, refl, sym, ap, ap₂, subst, _∙_}
-use mathlib.Core.Bool.{Bool, true, false, cond, _||_}
+use mathlib.Core.Bool.{Bool, true, false, not, cond, _&&_, _||_}
 use mathlib.Core.Logic.{⊎-elim}
 use Prim.Native.Nat.{ℕ, zero, suc, _+_, _-_, _*_, _/_, _%_, _^_, _<_, _≤_, max}
-use native.Mathlib.Nat.{div-add-mod', mod-lt, max-le, max-zero, max-eq-right, add-mul, one-mul, zero-add, suc-add, add-sub-of-le, div-self, div-eq-of-lt, mul-div-cancel-left, mul-mod-left, pow-suc}
+use native.Mathlib.Nat.{div-add-mod', mod-lt, max-le, max-zero, max-eq-right, add-mul, one-mul, zero-add, suc-add, add-sub-of-le, div-self, div-eq-of-lt, mul-div-cancel-left, mul-mod-left, pow-suc, add-div-right}
 use native.Mathlib.Decide.{decLe}
 use native.Mathlib.Numerals.{one-add}
 use native.Mathlib.Omega.{arith}
 use lib.Bits.{bitAnd, bitOr, and-block, and-mask, and-zero-r, or-disjoint, or-lt, or-shr, or-step}
 use lib.Count.{ones, ones-step, ones-cat}
-use lib.Dec.{eqb, lit<}
-use lib.Pow.{pow-pos, pow-lt, pow-add, shl-exact}
+use lib.Dec.{eqb}
+use lib.Pow.{pow-pos, pow-lt, pow-add}
 use borrow.Author.Tests.{eqb-true, eqb-false, eq-eqb, ne-eqb}
 use Rattle.chord.specs.Sets.{has}
-use Rattle.candidates.specs.Keys.{keyClass}
 
 pub held : (s c : ℕ) → has s c ≡ true → s / 2 ^ c % 2 ≡ 1
 unfolding has
@@ -37,9 +36,6 @@ present s c other = eq-eqb (s / 2 ^ c % 2) 1 (omega (arith, other))
 pub missing : (s c : ℕ) → s / 2 ^ c % 2 ≡ 0 → has s c ≡ false
 unfolding has
 missing s c e = ne-eqb (s / 2 ^ c % 2) 1 (let other : s / 2 ^ c % 2 ≡ 1 → ⊥ = omega arith in other)
-
-pub bit-held : (key : ℕ) → 1 * 2 ^ keyClass key % 2 ^ 32 ≡ 2 ^ keyClass key
-bit-held key = shl-exact {a = 1} 1 (keyClass key) 32 (lit< tt) (omega arith) ∙ one-mul (2 ^ keyClass key)
 
 module _ (s c : ℕ) (no-class : has s c ≡ false) where
   whole : s ≡ s / 2 ^ c * 2 ^ c + s % 2 ^ c
@@ -107,6 +103,10 @@ pow-digit c k = by-order (decLe k c)
         let other : k ≡ c → ⊥ = omega arith in
         rw (ne-eqb k c other) (ap (λ (x : ℕ). x % 2) (div-eq-of-lt (pow-lt less)))
 
+and-true : (b : Bool) → b && true ≡ b
+and-true true = refl
+and-true false = refl
+
 -- of two digits
 either : (a : ℕ) (b : Bool) → a ≤ 1 → eqb (max a (cond b 1 0)) 1 ≡ b || eqb a 1
 either a true h = rw (max-eq-right h)
@@ -119,3 +119,34 @@ joined-has s c no-class k =
     ∙ ap (λ (x : ℕ). eqb (x % 2) 1) (or-shr s (2 ^ c) k)
     ∙ ap (λ (x : ℕ). eqb x 1) (or-digit (s / 2 ^ k) (2 ^ c / 2 ^ k) ∙ ap (max (s / 2 ^ k % 2)) (pow-digit c k))
     ∙ either (s / 2 ^ k % 2) (eqb k c) (omega arith)
+
+-- a set with a class taken out: its digit there is the one that goes, and the class put back makes the set
+module _ (s c : ℕ) (class : has s c ≡ true) where
+  some : 2 ^ c ≤ s
+  some =
+      let odd = held s c class in
+      by-order odd (decLe (2 ^ c) s)
+    where
+      by-order : s / 2 ^ c % 2 ≡ 1 → Dec (2 ^ c ≤ s) → 2 ^ c ≤ s
+      by-order odd (yes h) = h
+      by-order odd (no h) = let less : s < 2 ^ c = omega arith in absurd (let no-way : ⊥ = omega (arith, odd, div-eq-of-lt less) in no-way)
+
+  put-back : s - 2 ^ c + 2 ^ c ≡ s
+  put-back = omega (arith, some)
+
+  gone : has (s - 2 ^ c) c ≡ false
+  unfolding has
+  gone =
+      let odd = held s c class in
+      let quotient : s / 2 ^ c ≡ (s - 2 ^ c) / 2 ^ c + 1 = ap (λ (x : ℕ). x / 2 ^ c) (sym put-back) ∙ add-div-right (s - 2 ^ c) (pow-pos c) in
+      missing (s - 2 ^ c) c (omega (arith, odd, quotient))
+
+  pub taken-has : (k : ℕ) → has (s - 2 ^ c) k ≡ has s k && not (eqb k c)
+  taken-has k = by-case (eqb k c) refl
+    where
+      whole : has s k ≡ eqb k c || has (s - 2 ^ c) k
+      whole = ap (λ (x : ℕ). has x k) (sym put-back) ∙ joined-has (s - 2 ^ c) c gone k
+
+      by-case : (b : Bool) → eqb k c ≡ b → has (s - 2 ^ c) k ≡ has s k && not b
+      by-case true e = ap (has (s - 2 ^ c)) (eqb-true k c e) ∙ gone ∙ sym (rw (whole, e))
+      by-case false e = sym (rw (whole, e) (and-true (has (s - 2 ^ c) k)))
