@@ -4,7 +4,7 @@ use chord::interval::Numbered;
 ghost use mathlib.Core.Path.{_≡_};
 ghost use Prim.Native.Nat.{_-_, _+_, _≤_, _<_};
 ghost use lib.ListN.{length, take};
-ghost use Rattle.voicings.specs.Pool.{baseOf, toneOf, tonesOf, siftAt, ordered};
+ghost use Rattle.voicings.specs.Pool.{baseOf, toneOf, tonesOf, ordered};
 
 // A tone of a chord: its interval's semitones in one octave, its class, and its interval's number.
 pub struct Tone {
@@ -58,27 +58,8 @@ pub(crate) fn gathered(classes: &[u8], intervals: &[u8], count: usize) -> [Tone;
     tones
 }
 
-// The tone at a place goes on into its place among the tones behind it, up to the first `count`.
-fn sifted(tones: [Tone; 16], place: usize, count: usize) -> [Tone; 16]
-    requires { ⌜ (length tones ≡ 16) × (count ≤ 16) × (place < count) ⌝ }
-    ensures { λ r. ⌜ r ≡ siftAt place (count - (place + 1)) tones ⌝ }
-{
-    let mut sifting = tones;
-    let mut at = place;
-    while at + 1 < count {
-        let tone = sifting[at];
-        let next = sifting[at + 1];
-        if tone.base <= next.base {
-            return sifting;
-        }
-        sifting[at] = next;
-        sifting[at + 1] = tone;
-        at += 1;
-    }
-    sifting
-}
-
-// The first `count` tones in order of base, tones of equal base as they stood.
+// The first `count` tones in order of base, tones of equal base as they stood: from the last to the first, each goes on into its
+// place among those behind it.
 pub(crate) fn arranged(tones: [Tone; 16], count: usize) -> [Tone; 16]
     requires { ⌜ (length tones ≡ 16) × (count ≤ 16) ⌝ }
     ensures { λ r. ⌜ r ≡ ordered count tones ⌝ }
@@ -87,8 +68,17 @@ pub(crate) fn arranged(tones: [Tone; 16], count: usize) -> [Tone; 16]
     let mut i = count;
     while 0 < i {
         i -= 1;
-        let next = sifted(ordering, i, count);
-        ordering = next;
+        let mut at = i;
+        while at + 1 < count {
+            let tone = ordering[at];
+            let next = ordering[at + 1];
+            if tone.base <= next.base {
+                break;
+            }
+            ordering[at] = next;
+            ordering[at + 1] = tone;
+            at += 1;
+        }
     }
     ordering
 }
