@@ -29,7 +29,7 @@ ghost use lib.ListN.{length};
 ghost use Rattle.answer.specs.Written.{Writes};
 ghost use Rattle.chord.specs.Intervals.{setOf};
 ghost use Rattle.voicings.specs.Pool.{tonesIn};
-ghost use Rattle.voicings.specs.Guides.{holdsAny, guideOnce, tensionOnce, guideKeys, tensionKeys};
+ghost use Rattle.voicings.specs.Guides.{holdsAny, sixths, sevenths, guideOnce, tensionOnce, guideKeys, tensionKeys};
 
 const GUIDES: u32 = MINOR_THIRD
     | MAJOR_THIRD
@@ -55,19 +55,26 @@ const SMALL: usize = 6;
 
 const VERY_SMALL: usize = 3;
 
-fn holds_any(pool: Pool, set: u32) -> bool
+// Which sixths and sevenths a pool has: a sixth or a diminished seventh, and a minor seventh.
+pub struct Held {
+    pub sixth: bool,
+    pub seventh: bool,
+}
+
+pub(crate) fn look_for(pool: Pool) -> Held
     requires { ⌜ (length (pool .tones) ≡ 16) × (pool .count ≤ 16) ⌝ }
-    ensures { λ r. ⌜ r ≡ holdsAny set (tonesIn pool) ⌝ }
+    ensures { λ r. ⌜ (r .sixth ≡ holdsAny sixths (tonesIn pool)) × (r .seventh ≡ holdsAny sevenths (tonesIn pool)) ⌝ }
 {
+    let mut sixth = false;
+    let mut seventh = false;
     let mut i = 0;
     while i < pool.count {
         let tone = pool.tones[i];
-        if in_set(set, tone.interval) {
-            return true;
-        }
+        sixth = sixth | in_set(SIXTHS, tone.interval);
+        seventh = seventh | in_set(MINOR_SEVENTH, tone.interval);
         i += 1;
     }
-    false
+    Held { sixth, seventh }
 }
 
 // Of which interval the first tone is a guide too: a sixth, or a major seventh, stays clear of the other sevenths.
@@ -95,23 +102,25 @@ fn tension_once(sixth: bool, seventh: bool, count: usize) -> u32
 }
 
 // Writes the guides behind a place, lowest first.
-pub(crate) fn put_guides(buffer: &mut [u8], place: usize, pool: Pool) -> usize
-    requires { ⌜ (length (pool .tones) ≡ 16) × (pool .count ≤ 16) × (place + 16 ≤ length (now buffer)) ⌝ }
+pub(crate) fn put_guides(buffer: &mut [u8], place: usize, pool: Pool, held: Held) -> usize
+    requires { ⌜ (length (pool .tones) ≡ 16) × (pool .count ≤ 16) × (place + 16 ≤ length (now buffer)) × (held .sixth ≡ holdsAny sixths (tonesIn pool)) × (held .seventh ≡ holdsAny sevenths (tonesIn pool)) ⌝ }
     ensures { λ r. ⌜ Writes (now (buffer .entry)) place (guideKeys 51 79 (tonesIn pool)) r (now (buffer .exit)) ⌝ }
 {
-    let once = guide_once(holds_any(pool, SIXTHS), holds_any(pool, MINOR_SEVENTH));
+    let once = guide_once(held.sixth, held.seventh);
     put_placed(buffer, place, offered(pool, GUIDES, once, 0, LIMIT))
 }
 
 // Writes the tensions below a lead behind a place, highest first.
-pub(crate) fn put_tensions(buffer: &mut [u8], place: usize, pool: Pool, lead: u8) -> usize
-    requires { ⌜ (length (pool .tones) ≡ 16) × (pool .count ≤ 16) × (place + 16 ≤ length (now buffer)) ⌝ }
+pub(crate) fn put_tensions(
+    buffer: &mut [u8],
+    place: usize,
+    pool: Pool,
+    held: Held,
+    lead: u8,
+) -> usize
+    requires { ⌜ (length (pool .tones) ≡ 16) × (pool .count ≤ 16) × (place + 16 ≤ length (now buffer)) × (held .sixth ≡ holdsAny sixths (tonesIn pool)) × (held .seventh ≡ holdsAny sevenths (tonesIn pool)) ⌝ }
     ensures { λ r. ⌜ Writes (now (buffer .entry)) place (tensionKeys 51 lead (tonesIn pool)) r (now (buffer .exit)) ⌝ }
 {
-    let once = tension_once(
-        holds_any(pool, SIXTHS),
-        holds_any(pool, MINOR_SEVENTH),
-        pool.count,
-    );
+    let once = tension_once(held.sixth, held.seventh, pool.count);
     put_placed(buffer, place, offered(pool, TENSIONS, once, lead, lead))
 }

@@ -1,6 +1,5 @@
 // The lead: the key of an unbarred tone that is nearest to the wanted one, and what the pool is once it has left.
 use crate::bits::in_set;
-use crate::bits::take_out;
 use crate::offers::distance;
 use crate::offers::nearest;
 use crate::offers::nothing;
@@ -31,14 +30,13 @@ fn rubs(tone: Tone, next: Tone) -> bool
     (apart == 1) | (apart == 11)
 }
 
-// A set of intervals after a tone and its successor: where they rub, the successor's is barred.
+// A set of intervals after a tone and its successor: where they rub, the successor's is barred. Without a branch: which pairs rub
+// cannot be foretold.
 fn barring(free: u32, tone: Tone, next: Tone) -> u32
     ensures { λ r. ⌜ r ≡ cond (rubs tone next) (without (next .interval) free) free ⌝ }
 {
-    if rubs(tone, next) {
-        return take_out(free, next.interval);
-    }
-    free
+    let bars = rubs(tone, next) & in_set(free, next.interval);
+    free - ((bars as u32) % 2 << (next.interval % 32))
 }
 
 // The intervals that no tone bars. Each tone is its successor's, the last the first's.

@@ -1,4 +1,5 @@
 // The voicing of a chord record: bass, guides, tensions, lead.
+use crate::guides::look_for;
 use crate::guides::put_guides;
 use crate::guides::put_tensions;
 use crate::lead::lead_key;
@@ -116,8 +117,9 @@ fn put_above(buffer: &mut [u8], place: usize, pool: Pool, wanted: u8) -> usize
 {
     let lead = lead_key(pool, wanted);
     let left = leave(pool, lead);
-    let guided = put_guides(buffer, place, left);
-    let tensed = put_tensions(buffer, guided, left, lead);
+    let held = look_for(left);
+    let guided = put_guides(buffer, place, left, held);
+    let tensed = put_tensions(buffer, guided, left, held, lead);
     buffer[tensed] = lead;
     tensed + 1
 }

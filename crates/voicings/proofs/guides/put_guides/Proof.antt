@@ -7,18 +7,18 @@ use Rattle.answer.proofs.Writing.{same-text}
 use Rattle.chord.specs.Intervals.{setOf}
 use Rattle.voicings.specs.Pool.{tonesIn}
 use Rattle.voicings.specs.Offered.{keep}
-use Rattle.voicings.specs.Guides.{sixths, sevenths, guides}
+use Rattle.voicings.specs.Guides.{guides}
 use Rattle.voicings.proofs.Kept.{keep-all}
 use Rattle.voicings.proofs.Placing.{IsRun, guide-keys}
 use Rattle.voicings.proofs.guides.put_guides.Statement.{statement}
 use Rattle.voicings.proofs.guides.put_guides.Tie as tie
 
 isRun : (c : tie.After-offered) → IsRun (c .offered .result)
-isRun c = (c .offered .ensures .0, omega (arith, c .offered .ensures .1, c .before .before .before .before .before .before .pre .1))
+isRun c = (c .offered .ensures .0, omega (arith, c .offered .ensures .1, c .before .before .before .before .pre .1))
 
 put-placed-requires : tie.Need-put-placed-requires
 put-placed-requires c κs =
-    let s = c .before .before .before .before .before .before in
+    let s = c .before .before .before .before in
     let are = c .offered .ensures .2 in (
       isRun c .0,
       isRun c .1,
@@ -27,22 +27,20 @@ put-placed-requires c κs =
     )
 
 returns : tie.Need-returns
-unfolding sixths sevenths guides setOf
+unfolding guides setOf
 returns c =
     let o = c .before .before .before in
     let g = o .before .before in
-    let s = g .before .before .before .before in
+    let s = g .before .before in
     same-text
-    (guide-keys (o .offered .result) (isRun o) (tonesIn (s .args .pool)) (g .guide-once .result) (g .before .before .holds-any .result) (g .before .holds-any2 .result)
-    (g .before .before .holds-any .ensures) (g .before .holds-any2 .ensures) (o .offered .ensures .2) (g .guide-once .ensures))
+    (guide-keys (o .offered .result) (isRun o) (tonesIn (s .args .pool)) (g .guide-once .result) (s .args .held .sixth) (s .args .held .seventh)
+    (s .pre .3) (s .pre .4) (o .offered .ensures .2) (g .guide-once .ensures))
     (c .before .before .put-placed .ensures)
 
 pub put-guides-spec : {M : Type 1} → statement M
 put-guides-spec =
     tie.close
     (tie.spec
-    (λ c κs. search needs)
-    (λ c κs. search needs)
     (λ c κs. search needs)
     (λ c κs. search needs)
     put-placed-requires

@@ -9,18 +9,18 @@ use Rattle.answer.proofs.Writing.{same-text}
 use Rattle.chord.specs.Intervals.{setOf}
 use Rattle.voicings.specs.Pool.{tonesIn}
 use Rattle.voicings.specs.Offered.{keep}
-use Rattle.voicings.specs.Guides.{sixths, sevenths, tensions}
+use Rattle.voicings.specs.Guides.{tensions}
 use Rattle.voicings.proofs.Kept.{keep-all}
 use Rattle.voicings.proofs.Placing.{IsRun, tension-keys}
 use Rattle.voicings.proofs.guides.put_tensions.Statement.{statement}
 use Rattle.voicings.proofs.guides.put_tensions.Tie as tie
 
 isRun : (c : tie.After-offered) → IsRun (c .offered .result)
-isRun c = (c .offered .ensures .0, omega (arith, c .offered .ensures .1, c .before .before .before .before .before .before .pre .1))
+isRun c = (c .offered .ensures .0, omega (arith, c .offered .ensures .1, c .before .before .before .before .pre .1))
 
 put-placed-requires : tie.Need-put-placed-requires
 put-placed-requires c κs =
-    let s = c .before .before .before .before .before .before in
+    let s = c .before .before .before .before in
     let are = c .offered .ensures .2 in (
       isRun c .0,
       isRun c .1,
@@ -29,24 +29,22 @@ put-placed-requires c κs =
     )
 
 returns : tie.Need-returns
-unfolding sixths sevenths tensions setOf
+unfolding tensions setOf
 returns c =
     let o = c .before .before .before in
     let g = o .before .before in
-    let s = g .before .before .before .before in
+    let s = g .before .before in
     let size : s .args .pool .count ≡ length (tonesIn (s .args .pool)) =
     sym (length-take-le (s .args .pool .count) (s .args .pool .tones) (omega (arith, s .pre .0, s .pre .1))) in
     same-text
-    (tension-keys (o .offered .result) (isRun o) (tonesIn (s .args .pool)) (g .tension-once .result) (g .before .before .holds-any .result) (g .before .holds-any2 .result)
-    (g .before .before .holds-any .ensures) (g .before .holds-any2 .ensures) (s .args .lead) (s .args .pool .count) size (o .offered .ensures .2) (g .tension-once .ensures))
+    (tension-keys (o .offered .result) (isRun o) (tonesIn (s .args .pool)) (g .tension-once .result) (s .args .held .sixth) (s .args .held .seventh)
+    (s .pre .3) (s .pre .4) (s .args .lead) (s .args .pool .count) size (o .offered .ensures .2) (g .tension-once .ensures))
     (c .before .before .put-placed .ensures)
 
 pub put-tensions-spec : {M : Type 1} → statement M
 put-tensions-spec =
     tie.close
     (tie.spec
-    (λ c κs. search needs)
-    (λ c κs. search needs)
     (λ c κs. search needs)
     (λ c κs. search needs)
     put-placed-requires
