@@ -7,6 +7,7 @@ pub mod Best
 pub mod Climb
 pub mod Owned
 pub mod Kept
+pub mod Search
 pub mod Placing
 pub mod Few
 pub mod Replied
