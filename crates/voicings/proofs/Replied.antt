@@ -5,7 +5,6 @@
 --     no-class, too-many, bad-pair    refusals 2, 3 and 4
 --     told                            the voicing
 --     few-bass                        at most two keys stand below the guides
---     length-ordered, front-sorted    the run of tones, ordered: its length, and the tones in it
 use mathlib.Core.Path.{_≡_, refl, sym, ap, ap₂, _∙_}
 use mathlib.Core.Bool.{Bool, true, false, cond, _&&_}
 use mathlib.Core.List.{List, [], _∷_, _++_}
@@ -13,8 +12,7 @@ use Prim.Native.Nat.{ℕ, zero, suc, _+_, _≤_, _<_}
 use native.Mathlib.Nat.{not-suc-le-zero, le-of-suc-le-suc}
 use native.Mathlib.Omega.{arith}
 use lib.Dec.{leb}
-use lib.ListN.{length, take, drop, take-append-drop, length-append}
-use lib.Seq.{length-take-le, take-at}
+use lib.ListN.{length, take}
 use borrow.Author.Tests.{lt-leb, le-leb}
 use Rattle.answer.specs.Replies.{refuse, text}
 use Rattle.answer.specs.declared.refusal.Refusal.the-variants.{BadClass, TooManyPairs, BadPair}
@@ -22,9 +20,8 @@ use Rattle.voicings.specs.declared.pool.Tone.{Tone}
 use Rattle.voicings.specs.declared.voicing.Bass.{Bass}
 use Rattle.voicings.specs.declared.voicing.Bass.the-variants as Bass
 use Rattle.voicings.specs.declared.voicing.Chord.{Chord}
-use Rattle.voicings.specs.Pool.{toneOf, tonesOf, sorted, ordered}
+use Rattle.voicings.specs.Pool.{toneOf, tonesOf}
 use Rattle.voicings.specs.Voicing.{bassKeys, isBass, arePairs, voicingOf, voicingReply}
-use Rattle.voicings.proofs.Order.{length-sorted}
 
 pub used-classes : (cs is : List ℕ) → length cs ≤ length is → length (tonesOf cs is) ≡ length cs
 unfolding tonesOf
@@ -81,16 +78,3 @@ module _ (lowest highest : ℕ) (chord : Chord) (cs is : List ℕ) where
 pub few-bass : (root : ℕ) (bass : Bass) → length (bassKeys root bass) ≤ 2
 few-bass root Bass.None = omega arith
 few-bass root (Bass.Class class) = omega arith
-
-sorted-first : (n : ℕ) (l : List Tone) → n ≤ length l → length (sorted (take n l)) ≡ n
-sorted-first n l h = length-sorted (take n l) ∙ length-take-le n l h
-
-pub length-ordered : (n : ℕ) (l : List Tone) → length (ordered n l) ≡ length l
-unfolding ordered
-length-ordered n l =
-    length-append (sorted (take n l)) (drop n l) ∙ ap (λ (k : ℕ). k + length (drop n l)) (length-sorted (take n l))
-    ∙ sym (length-append (take n l) (drop n l)) ∙ ap length (take-append-drop n l)
-
-pub front-sorted : (n : ℕ) (l : List Tone) → n ≤ length l → take n (ordered n l) ≡ sorted (take n l)
-unfolding ordered
-front-sorted n l h = take-at (sorted (take n l)) (drop n l) n (sorted-first n l h)

@@ -6,7 +6,6 @@
 --     tonesIn      the tones of a pool as the code has it
 --     insert       a tone goes before the first whose base is not less than its own
 --     sorted       tones in order of base, equal bases in the list's order
---     ordered      the first n tones sorted, and the others as they were
 --     siftAt       the tone at a place goes on into its place among the m tones behind it
 use mathlib.Core.Bool.{cond}
 use mathlib.Core.List.{List, [], _∷_, _++_}
@@ -44,9 +43,6 @@ insert t (x ∷ more) = cond (ltb (x .base) (t .base)) (x ∷ insert t more) (t 
 unfoldable pub sorted : List Tone → List Tone
 sorted [] = []
 sorted (t ∷ more) = insert t (sorted more)
-
-unfoldable pub ordered : ℕ → List Tone → List Tone
-ordered n tones = sorted (take n tones) ++ drop n tones
 
 unfoldable pub siftAt : ℕ → ℕ → List Tone → List Tone
 siftAt n m [] = []

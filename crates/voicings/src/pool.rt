@@ -4,7 +4,7 @@ use chord::interval::Numbered;
 ghost use mathlib.Core.Path.{_≡_};
 ghost use Prim.Native.Nat.{_-_, _+_, _≤_, _<_};
 ghost use lib.ListN.{length, take};
-ghost use Rattle.voicings.specs.Pool.{baseOf, toneOf, tonesOf, ordered};
+ghost use Rattle.voicings.specs.Pool.{baseOf, toneOf, tonesOf, sorted};
 
 // A tone of a chord: its interval's semitones in one octave, its class, and its interval's number.
 pub struct Tone {
@@ -40,45 +40,32 @@ impl Tone {
     }
 }
 
-// The tones of the first pairs, in the order given.
-pub(crate) fn gathered(classes: &[u8], intervals: &[u8], count: usize) -> [Tone; 16]
+// The tones of the first pairs in order of base, tones of equal base in the order given: from the last pair to the first, each tone
+// goes on into its place among those behind it.
+pub(crate) fn arranged(classes: &[u8], intervals: &[u8], count: usize) -> [Tone; 16]
     requires { ⌜ (count ≤ 16) × (count ≤ length (now classes)) × (count ≤ length (now intervals)) ⌝ }
-    ensures { λ r. ⌜ (length r ≡ 16) × (take count r ≡ tonesOf (take count (now (classes .entry))) (take count (now (intervals .entry)))) ⌝ }
+    ensures { λ r. ⌜ (length r ≡ 16) × (take count r ≡ sorted (tonesOf (take count (now (classes .entry))) (take count (now (intervals .entry))))) ⌝ }
 {
     let mut tones = [Tone {
         base: 0,
         class: 0,
         interval: 0,
     }; 16];
-    let mut i = 0;
-    while i < count {
-        tones[i] = Tone::new(classes[i], intervals[i]);
-        i += 1;
-    }
-    tones
-}
-
-// The first `count` tones in order of base, tones of equal base as they stood: from the last to the first, each goes on into its
-// place among those behind it.
-pub(crate) fn arranged(tones: [Tone; 16], count: usize) -> [Tone; 16]
-    requires { ⌜ (length tones ≡ 16) × (count ≤ 16) ⌝ }
-    ensures { λ r. ⌜ r ≡ ordered count tones ⌝ }
-{
-    let mut ordering = tones;
     let mut i = count;
     while 0 < i {
         i -= 1;
+        tones[i] = Tone::new(classes[i], intervals[i]);
         let mut at = i;
         while at + 1 < count {
-            let tone = ordering[at];
-            let next = ordering[at + 1];
+            let tone = tones[at];
+            let next = tones[at + 1];
             if tone.base <= next.base {
                 break;
             }
-            ordering[at] = next;
-            ordering[at + 1] = tone;
+            tones[at] = next;
+            tones[at + 1] = tone;
             at += 1;
         }
     }
-    ordering
+    tones
 }

@@ -17,7 +17,7 @@ use Rattle.answer.proofs.Writing.{also, same-text, counted, within}
 use Rattle.voicings.specs.declared.pool.Tone.{Tone}
 use Rattle.voicings.specs.Pool.{tonesIn, tonesOf, sorted}
 use Rattle.voicings.specs.Voicing.{bassKeys, aboveBass, wantedOf, isBass, arePairs, voicingOf}
-use Rattle.voicings.proofs.Replied.{few-classes, few-intervals, first-used, no-class, too-many, bad-pair, told, few-bass, length-ordered, front-sorted}
+use Rattle.voicings.proofs.Replied.{few-classes, few-intervals, first-used, no-class, too-many, bad-pair, told, few-bass}
 use Rattle.voicings.proofs.voicing.voicing.Statement.{statement}
 use Rattle.voicings.proofs.voicing.voicing.Tie as tie
 
@@ -76,18 +76,10 @@ returns-3 c =
     let bad = refused _ _ (c .before .are-pairs .ensures ∙ ap arePairs (used-tones e)) (c .if3 .taken) in
     refused-by _ _ _ (bad-pair _ _ (s .args .chord) _ _ (good (e .before .before)) (few e) bad)
 
--- the pool: its run of tones, and which they are
+-- the tones of the pool
 module _ (c : tie.After-arranged) where
-  size : length (c .arranged .result) ≡ 16
-  size = ap length (c .arranged .ensures) ∙ length-ordered (count (c .before .before .before .before)) (c .before .gathered .result) ∙ c .before .gathered .ensures .0
-
-  tones : take (count (c .before .before .before .before)) (c .arranged .result)
-      ≡ sorted (tonesOf (classes (c .before .before .before .before)) (intervals (c .before .before .before .before)))
-  tones =
-      let e = c .before .before .before .before in
-      ap (take (count e)) (c .arranged .ensures)
-      ∙ front-sorted (count e) (c .before .gathered .result) (omega (arith, c .before .gathered .ensures .0, e .if2 .left))
-      ∙ ap sorted (c .before .gathered .ensures .1 ∙ used-tones e)
+  tones : take (count (c .before .before .before)) (c .arranged .result) ≡ sorted (tonesOf (classes (c .before .before .before)) (intervals (c .before .before .before)))
+  tones = c .arranged .ensures .1 ∙ ap sorted (used-tones (c .before .before .before))
 
 -- the voicing stands at the front of the buffer
 module _ (c : tie.After-put-above) where
@@ -95,7 +87,7 @@ module _ (c : tie.After-put-above) where
   arranged = c .before .before .before .before .before .before
 
   abbrev start : tie.Start
-  start = arranged .before .before .before .before .before .before .before .before .before .before .before
+  start = arranged .before .before .before .before .before .before .before .before .before .before
 
   stands : Writes (replicate 35 0) 0 (voicingOf 51 79 (start .args .chord) (now (start .args .classes)) (now (start .args .intervals))) (c .put-above .result) (c .put-above .last .0)
   unfolding voicingOf
@@ -109,8 +101,8 @@ returns-4 c =
     let g = c .before .before in
     let p = g .before .before .before .before in
     let s = start p in
-    let e = arranged p .before .before .before .before in
-    let good-pairs = admitted _ _ (arranged p .before .before .before .are-pairs .ensures ∙ ap arePairs (used-tones e)) (arranged p .before .before .if3 .left) in
+    let e = arranged p .before .before .before in
+    let good-pairs = admitted _ _ (arranged p .before .before .are-pairs .ensures ∙ ap arePairs (used-tones e)) (arranged p .before .if3 .left) in
     let reply = ap text (stands p .added) ∙ sym (told 51 79 (s .args .chord) (now (s .args .classes)) (now (s .args .intervals)) (good (e .before .before)) (few e) good-pairs) in
     subst (λ (x : Reply). Answered x (now (s .args .out)) (g .give .result) (g .give .last .1 .0)) reply (g .give .ensures)
 
@@ -125,15 +117,14 @@ voicing-spec =
     (λ c κs. (in-classes c, in-intervals c))
     returns-3
     (λ c κs. let e = c .before .before in (e .if2 .left, in-classes e, in-intervals e))
-    (λ c κs. (c .gathered .ensures .0, c .before .before .before .if2 .left))
     (λ c. search needs)
-    (λ c κs. let e = c .before .before .before .before .before .before .before in (is-root e, is-bass e, omega arith))
+    (λ c κs. let e = c .before .before .before .before .before .before in (is-root e, is-bass e, omega arith))
     (λ c. search needs)
     (λ c κs. search needs)
     (λ c κs. let b = c .before .before .before in
     let a = b .before .before in
-    let s = a .before .before .before .before .before .before .before .before .before .before .before in
-    (size a, a .before .before .before .before .if2 .left, omega (arith, b .put-bass .ensures .place, few-bass (s .args .chord .root) (s .args .chord .bass), b .put-bass .kept .0)))
+    let s = a .before .before .before .before .before .before .before .before .before .before in
+    (a .arranged .ensures .0, a .before .before .before .if2 .left, omega (arith, b .put-bass .ensures .place, few-bass (s .args .chord .root) (s .args .chord .bass), b .put-bass .kept .0)))
     (λ c. within (stands (c .before)))
     (λ c. counted (stands (c .before .before)))
     (λ c κs. search needs)
