@@ -1,16 +1,16 @@
 -- A climb over the keys of a tone, from its lowest up by twelves: the next key is nearer to the wanted one exactly where that is beyond
 -- half the way to it, and from the first that is not, none is.
 --     Climbing       a key is the best so far, with the steps that are left
---     begin, turn    the lowest key, and the next
---     stopped        where the next is not below the limit, or not nearer, the key is the best of all
+--     reached        some octaves up, each nearer than the one before, and the next not below the limit or not nearer: the best of all
 --     no-key         where the lowest is not below the limit there is none
-use mathlib.Core.Path.{_≡_, refl, sym, ap, ap₂, subst, _∙_}
+use mathlib.Core.Path.{_≡_, refl, sym, ap, subst, _∙_}
 use mathlib.Core.Bool.{Bool, true, false, cond, _&&_}
 use mathlib.Core.List.{List, [], _∷_, map}
+use mathlib.Core.Logic.{_⊎_, ⊎-elim}
 use Prim.Native.Nat.{ℕ, zero, suc, _+_, _*_, _-_, _≤_, _<_}
 use native.Mathlib.Decide.{decLt}
 use native.Mathlib.Omega.{arith}
-use lib.Dec.{T, leb, ltb}
+use lib.Dec.{leb, ltb}
 use borrow.Author.Tests.{lt-ltb, le-ltb, lt-leb, le-leb}
 use Rattle.voicings.specs.declared.offers.Offer.{Offer}
 use Rattle.voicings.specs.Choice.{keysFrom, distance, offer, nothing, sooner, best}
@@ -83,7 +83,7 @@ module _ (limit wanted interval : ℕ) where
   unfolding keysFrom
   passes found n key h = rw (lt-leb 51 key h)
 
-  pub record Climbing (class key : ℕ) : Type 0 where
+  record Climbing (class key : ℕ) : Type 0 where
     pub steps : ℕ
     pub reach : key + 12 + 12 * steps ≡ 48 + class + 216
     pub low : 51 ≤ key
@@ -106,7 +106,7 @@ module _ (limit wanted interval : ℕ) where
     first : (n key : ℕ) → 51 ≤ key → key < limit → bestFrom (offer wanted interval key) n (key + 12) ≡ bestFrom (nothing interval) (suc n) key
     first n key low h = sym (looks (nothing interval) n key low h ∙ rw (lt-ltb (distance wanted key) 255 (known wanted key byte low (omega arith))))
 
-    pub begin : firstKey class < limit → Climbing class (firstKey class)
+    begin : firstKey class < limit → Climbing class (firstKey class)
     begin h = by-order (decLt (48 + class) 51) h
       where
         by-order : Dec (48 + class < 51) → firstKey class < limit → Climbing class (firstKey class)
@@ -120,7 +120,7 @@ module _ (limit wanted interval : ℕ) where
             let top : 48 + class < limit = rw e at h in
             rw e (record { steps = 17; reach = omega arith; low = from; whole = first 17 (48 + class) from top })
 
-    pub turn : (key : ℕ) → key + 12 < limit → key + 6 < wanted → Climbing class key → Climbing class (key + 12)
+    turn : (key : ℕ) → key + 12 < limit → key + 6 < wanted → Climbing class key → Climbing class (key + 12)
     turn key top far c = go (c .steps) (c .reach) (c .whole)
       where
         go : (n : ℕ) → key + 12 + 12 * n ≡ 48 + class + 216 → bestFrom (offer wanted interval key) n (key + 12) ≡ bestFrom (nothing interval) 18 (48 + class)
@@ -137,10 +137,21 @@ module _ (limit wanted interval : ℕ) where
                   ∙ w;
             }
 
-    pub stopped : (key : ℕ) → ltb (key + 12) limit && ltb (key + 6) wanted ≡ false → Climbing class key → offer wanted interval key ≡ bestFrom (nothing interval) 18 (48 + class)
-    stopped key halt c = by-order (decLt (key + 12) limit) (decLt (key + 6) wanted) halt
-      where
-        by-order : Dec (key + 12 < limit) → Dec (key + 6 < wanted) → ltb (key + 12) limit && ltb (key + 6) wanted ≡ false → offer wanted interval key ≡ bestFrom (nothing interval) 18 (48 + class)
-        by-order (yes h) (yes k) e = absurd (subst T (ap₂ _&&_ (sym (lt-ltb (key + 12) limit h)) (sym (lt-ltb (key + 6) wanted k)) ∙ e) tt)
-        by-order (yes h) (no k) e = sym (stays (c .steps) key (key + 12) (omega arith) (omega arith)) ∙ c .whole
-        by-order (no h) k e = sym (nothing-past (offer wanted interval key) (c .steps) (key + 12) (omega arith)) ∙ c .whole
+    -- some octaves up, each of them nearer
+    climbs : (n : ℕ) → firstKey class < limit → firstKey class + 12 * n < limit → 12 * n ≤ wanted - firstKey class + 5 → Climbing class (firstKey class + 12 * n)
+    climbs zero h top up = let e : firstKey class ≡ firstKey class + 12 * 0 = omega arith in subst (Climbing class) e (begin h)
+    climbs (suc n) h top up =
+        let e : firstKey class + 12 * n + 12 ≡ firstKey class + 12 * suc n = omega arith in
+        let more : firstKey class + 12 * n + 12 < limit = omega arith in
+        let far : firstKey class + 12 * n + 6 < wanted = omega arith in
+        subst (Climbing class) e (turn (firstKey class + 12 * n) more far (climbs n h (omega arith) (omega arith)))
+
+    pub reached : (n : ℕ) → firstKey class < limit → firstKey class + 12 * n < limit → 12 * n ≤ wanted - firstKey class + 5
+        → (limit ≤ firstKey class + 12 * n + 12) ⊎ (wanted ≤ firstKey class + 12 * n + 6)
+        → offer wanted interval (firstKey class + 12 * n) ≡ bestFrom (nothing interval) 18 (48 + class)
+    reached n h top up end =
+        let c = climbs n h top up in
+        ⊎-elim
+        (λ last. sym (nothing-past (offer wanted interval (firstKey class + 12 * n)) (c .steps) (firstKey class + 12 * n + 12) last) ∙ c .whole)
+        (λ near. sym (stays (c .steps) (firstKey class + 12 * n) (firstKey class + 12 * n + 12) near (omega arith)) ∙ c .whole)
+        end

@@ -3,7 +3,6 @@ use crate::bits::in_set;
 use crate::offers::distance;
 use crate::offers::nearest;
 use crate::offers::nothing;
-use crate::offers::sooner;
 use crate::pool::Pool;
 use crate::pool::Tone;
 use crate::range::HIGHEST;
@@ -70,8 +69,9 @@ pub(crate) fn lead_key(pool: Pool, wanted: u8) -> u8
     let mut i = 0;
     while i < pool.count {
         let tone = pool.tones[i];
-        if in_set(free, tone.interval) {
-            found = sooner(found, nearest(tone, wanted, LIMIT));
+        let offer = nearest(tone, wanted, LIMIT);
+        if (offer.rank < found.rank) & in_set(free, tone.interval) {
+            found = offer;
         }
         i += 1;
     }

@@ -1,13 +1,13 @@
 -- `voicings::lead::lead_key` meets its contract. The loop's invariant: the best of what was found and of what the tones left offer is the
 -- best of all.
 use mathlib.Core.Path.{_≡_, refl, sym, ap, _∙_}
-use mathlib.Core.Bool.{Bool, true, false, cond, _||_}
+use mathlib.Core.Bool.{Bool, true, false, cond, _&&_, _||_}
 use mathlib.Core.List.{List, [], _∷_, map}
 use mathlib.Core.Logic.{⊎-elim}
 use Prim.Native.Nat.{ℕ, _+_, _-_, _/_, _%_, _^_, _≤_, _<_}
 use native.Mathlib.Nat.{zero-div}
 use native.Mathlib.Omega.{arith}
-use lib.Dec.{eqb}
+use lib.Dec.{eqb, ltb}
 use lib.ListN.{length, getD}
 use lib.Seq.{slice}
 use borrow.Author.Needs.{needs}
@@ -55,28 +55,27 @@ module _ (wanted free : ℕ) (tones : List Tone) (found : Offer) (i n : ℕ) (le
   abbrev step : bestFree wanted free found (slice i n tones) ≡ best found (map (nearestOf 51 80 wanted) (cond (has free (this .interval)) (this ∷ chosen free 0 (slice (i + 1) n tones)) (chosen free 0 (slice (i + 1) n tones))))
   step = ap (bestFree wanted free found) (next tones i n blank less fits) ∙ ap (λ (x : List Tone). best found (map (nearestOf 51 80 wanted) x)) (chosen-free free this (slice (i + 1) n tones))
 
-  looks : has free (this .interval) ≡ true → bestFree wanted free (sooner found (nearestOf 51 80 wanted this)) (slice (i + 1) n tones) ≡ bestFree wanted free found (slice i n tones)
+  -- the tone's offer is found where it ranks less and its interval is free
+  turn : (a m : Bool) → ltb (nearestOf 51 80 wanted this .rank) (found .rank) ≡ a → has free (this .interval) ≡ m
+      → bestFree wanted free (cond (a && m) (nearestOf 51 80 wanted this) found) (slice (i + 1) n tones) ≡ bestFree wanted free found (slice i n tones)
   unfolding best
-  looks e = sym (step ∙ rw e)
-
-  passes : has free (this .interval) ≡ false → bestFree wanted free found (slice (i + 1) n tones) ≡ bestFree wanted free found (slice i n tones)
-  passes e = sym (step ∙ rw e)
+  turn true true e f = sym (step ∙ rw f (ap (λ (b : Bool). bestFree wanted free (cond b (nearestOf 51 80 wanted this) found) (slice (i + 1) n tones)) e))
+  turn true false e f = sym (step ∙ rw f)
+  turn false true e f = sym (step ∙ rw f (ap (λ (b : Bool). bestFree wanted free (cond b (nearestOf 51 80 wanted this) found) (slice (i + 1) n tones)) e))
+  turn false false e f = sym (step ∙ rw f)
 
 loop-again : tie.Need-loop-again Inv-loop μ-loop
 loop-again c =
-    let l = c .before .before .before .before .loop in
-    let free = c .before .before .before .before .before .before .unbarred .result in
-    let s = c .before .before .before .before .before .before .before in
-    let member = sym (c .before .in-set .ensures) in
+    let near = c .before .before .before .before .nearest in
+    let l = c .before .before .before .before .before .before .before .loop in
+    let free = c .before .before .before .before .before .before .before .before .before .unbarred .result in
+    let s = c .before .before .before .before .before .before .before .before .before .before in
+    let member = c .before .in-set in
+    let less = ap (λ (o : Offer). ltb (o .rank) (l .found .rank)) (near .ensures) in
+    let told = turn (s .args .wanted) free (s .args .t1 .tones) (l .found) (l .i) (s .args .t1 .count) (omega arith) (omega arith) (ltb (near .result .rank) (l .found .rank)) (member .result) (sym less) (sym (member .ensures)) in
     ⊎-elim
-    (λ w. (
-      omega arith,
-      rw (w .3 ∙ w .2 .ensures, w .1 .ensures) (looks (s .args .wanted) free (s .args .t1 .tones) (l .found) (l .i) (s .args .t1 .count) (omega arith) (omega arith) (member ∙ w .0 .taken)) ∙ l .inv .1,
-    ))
-    (λ w. (
-      omega arith,
-      rw (w .1) (passes (s .args .wanted) free (s .args .t1 .tones) (l .found) (l .i) (s .args .t1 .count) (omega arith) (omega arith) (member ∙ w .0 .left)) ∙ l .inv .1,
-    ))
+    (λ w. (omega arith, rw (w .1 ∙ near .ensures) (rw (w .0 .taken) at told) ∙ l .inv .1))
+    (λ w. (omega arith, rw (w .1) (rw (w .0 .left) at told) ∙ l .inv .1))
     (c .if1 .came)
 
 returns : tie.Need-returns Inv-loop μ-loop
@@ -104,7 +103,6 @@ lead-key-spec =
     (λ c. (omega arith, rw (c .nothing .ensures)))
     (λ c. omega arith)
     (λ c. omega arith)
-    (λ c κs. search needs)
     (λ c κs. search needs)
     (λ c κs. search needs)
     (λ c. omega arith)
