@@ -7,7 +7,7 @@
 --     set-less        it is a set
 --     firsts-few      and they are at most twelve
 use mathlib.Core.Path.{_≡_, refl, sym, ap, ap₂, subst, _∙_}
-use mathlib.Core.Bool.{Bool, true, false, cond, _||_, or-assoc, or-comm, or-true, false-or}
+use mathlib.Core.Bool.{Bool, true, false, cond, _||_, or-assoc, or-comm, or-true, false-or, or-false}
 use mathlib.Core.List.{List, [], _∷_, _++_}
 use Prim.Native.Nat.{ℕ, zero, suc, _+_, _/_, _%_, _^_, _<_, _≤_}
 use native.Mathlib.Nat.{le-of-suc-le-suc, not-suc-le-zero, zero-div, mod-mod, add-zero, zero-add, add-suc, suc-add}
@@ -32,11 +32,7 @@ absorbed s c k heard old = by-case (eqb c k) refl
 
 gathered-has : (s : ℕ) (keys : List ℕ) (c : ℕ) → has (gathered s keys) c ≡ has s c || isHeard c keys
 unfolding gathered isHeard
-gathered-has s [] c = sym (or-false′ (has s c))
-  where
-    or-false′ : (b : Bool) → b || false ≡ b
-    or-false′ true = refl
-    or-false′ false = refl
+gathered-has s [] c = sym (or-false (has s c))
 gathered-has s (key ∷ more) c = by-case (has s (keyClass key)) refl (gathered-has s more c) (gathered-has (s + 2 ^ keyClass key) more c)
   where
     by-case : (b : Bool) → has s (keyClass key) ≡ b → has (gathered s more) c ≡ has s c || isHeard c more

@@ -7,7 +7,7 @@
 --     joined-has      and that class beside its own
 --     taken-has       a set with a class taken out that it had: it has the others
 use mathlib.Core.Path.{_≡_, refl, sym, ap, ap₂, subst, _∙_}
-use mathlib.Core.Bool.{Bool, true, false, not, cond, _&&_, _||_}
+use mathlib.Core.Bool.{Bool, true, false, not, cond, _&&_, _||_, and-true}
 use mathlib.Core.Logic.{⊎-elim}
 use Prim.Native.Nat.{ℕ, zero, suc, _+_, _-_, _*_, _/_, _%_, _^_, _<_, _≤_, max}
 use native.Mathlib.Nat.{div-add-mod', mod-lt, max-le, max-zero, max-eq-right, add-mul, one-mul, zero-add, suc-add, add-sub-of-le, div-self, div-eq-of-lt, mul-div-cancel-left, mul-mod-left, pow-suc, add-div-right}
@@ -102,10 +102,6 @@ pow-digit c k = by-order (decLe k c)
         let less : c < k = omega arith in
         let other : k ≡ c → ⊥ = omega arith in
         rw (ne-eqb k c other) (ap (λ (x : ℕ). x % 2) (div-eq-of-lt (pow-lt less)))
-
-and-true : (b : Bool) → b && true ≡ b
-and-true true = refl
-and-true false = refl
 
 -- of two digits
 either : (a : ℕ) (b : Bool) → a ≤ 1 → eqb (max a (cond b 1 0)) 1 ≡ b || eqb a 1

@@ -4,7 +4,7 @@
 --     reached        some octaves up, each nearer than the one before, and the next not below the limit or not nearer: the best of all
 --     no-key         where the lowest is not below the limit there is none
 use mathlib.Core.Path.{_≡_, refl, sym, ap, subst, _∙_}
-use mathlib.Core.Bool.{Bool, true, false, cond, _&&_}
+use mathlib.Core.Bool.{Bool, true, false, cond, _&&_, and-false}
 use mathlib.Core.List.{List, [], _∷_, map}
 use mathlib.Core.Logic.{_⊎_, ⊎-elim}
 use Prim.Native.Nat.{ℕ, zero, suc, _+_, _*_, _-_, _≤_, _<_}
@@ -48,10 +48,6 @@ module _ (limit wanted interval : ℕ) where
   -- the best of what was found and of n steps from a key on
   abbrev pub bestFrom : Offer → ℕ → ℕ → Offer
   bestFrom found n key = best found (map (offer wanted interval) (keysFrom 51 limit n key))
-
-  and-false : (b : Bool) → b && false ≡ false
-  and-false true = refl
-  and-false false = refl
 
   past : (n key : ℕ) → limit ≤ key → keysFrom 51 limit n key ≡ []
   unfolding keysFrom

@@ -3,7 +3,7 @@
 --     keep-without   so the offers that it keeps are those of other intervals
 --     keep-all       every offer of a chosen tone has one of 32 intervals
 use mathlib.Core.Path.{_≡_, refl, sym, ap, ap₂, subst, _∙_}
-use mathlib.Core.Bool.{Bool, true, false, not, cond, _&&_, _||_}
+use mathlib.Core.Bool.{Bool, true, false, not, cond, _&&_, _||_, and-true}
 use mathlib.Core.List.{List, [], _∷_, map}
 use mathlib.Core.Logic.{⊎-elim}
 use Prim.Native.Nat.{ℕ, zero, suc, _-_, _^_, _≤_, _<_}
@@ -24,13 +24,9 @@ pub without-has : (c s k : ℕ) → has (without c s) k ≡ has s k && not (eqb 
 unfolding without
 without-has c s k = by-case (has s c) refl
   where
-    and-true : (b : Bool) → b ≡ b && true
-    and-true true = refl
-    and-true false = refl
-
     by-same : has s c ≡ false → (b : Bool) → eqb k c ≡ b → has s k ≡ has s k && not b
     by-same absent true e = let none : has s k ≡ false = ap (has s) (eqb-true k c e) ∙ absent in rw none
-    by-same absent false e = and-true (has s k)
+    by-same absent false e = sym (and-true (has s k))
 
     by-case : (b : Bool) → has s c ≡ b → has (cond b (s - 2 ^ c) s) k ≡ has s k && not (eqb k c)
     by-case true e = taken-has s c e k

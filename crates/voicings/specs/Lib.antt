@@ -1,3 +1,4 @@
+pub mod Range
 pub mod Pool
 pub mod Choice
 pub mod Offered

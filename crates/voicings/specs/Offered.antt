@@ -1,5 +1,5 @@
 -- Offers as the code holds them: one for each tone, its best.
---     firstKey      the lowest key of a class from 51 on
+--     firstKey      the lowest key of a class in the range
 --     nearestOf     a tone's best offer, or rank 255 where it has no key
 --     offersIn      the offers of a run as the code has it
 --     keep          the offers of the intervals of a set
@@ -14,10 +14,11 @@ use Rattle.chord.specs.Sets.{has}
 use Rattle.voicings.specs.declared.pool.Tone.{Tone}
 use Rattle.voicings.specs.declared.offers.Offer.{Offer}
 use Rattle.voicings.specs.declared.offers.Offers.{Offers}
+use Rattle.voicings.specs.Range.{lowestKey}
 use Rattle.voicings.specs.Choice.{nothing, best, offersOf}
 
 abbrev pub firstKey : ℕ → ℕ
-firstKey class = cond (ltb (48 + class) 51) (48 + class + 12) (48 + class)
+firstKey class = cond (ltb (48 + class) lowestKey) (48 + class + 12) (48 + class)
 
 unfoldable pub nearestOf : ℕ → ℕ → ℕ → Tone → Offer
 nearestOf lowest limit wanted t = best (nothing (t .interval)) (offersOf lowest limit wanted t)

@@ -1,5 +1,4 @@
 -- The voicing of a chord: paper 01, "Voicing (001)" and "Numbers given back".
---     lowestKey, highestKey   "kept within 51..79", MIDI 1.0's Eb and G around middle C, key 60
 --     wantedOf     the lead asked for, "or none (79)": the highest key
 --     bassKeys     "bass + 36 and root + 48, or with no bass root + 36"
 --     voicingOf    "Output: .. guides; tensions; lead", the pool ordered by base
@@ -22,12 +21,6 @@ use Rattle.voicings.specs.declared.voicing.Chord.{Chord}
 use Rattle.voicings.specs.Pool.{tonesOf, sorted}
 use Rattle.voicings.specs.Lead.{leadOf, withoutLast}
 use Rattle.voicings.specs.Guides.{guideKeys, tensionKeys}
-
-abbrev pub lowestKey : ℕ
-lowestKey = 51
-
-abbrev pub highestKey : ℕ
-highestKey = 79
 
 abbrev pub wantedOf : ℕ → Lead → ℕ
 wantedOf highest Lead.None = highest

@@ -28,6 +28,7 @@ ghost use Prim.Native.Nat.{_+_, _≤_};
 ghost use lib.ListN.{length};
 ghost use Rattle.answer.specs.Written.{Writes};
 ghost use Rattle.chord.specs.Intervals.{setOf};
+ghost use Rattle.voicings.specs.Range.{lowestKey, highestKey};
 ghost use Rattle.voicings.specs.Pool.{tonesIn};
 ghost use Rattle.voicings.specs.Guides.{holdsAny, sixths, sevenths, guideOnce, tensionOnce, guideKeys, tensionKeys};
 
@@ -104,7 +105,7 @@ fn tension_once(sixth: bool, seventh: bool, count: usize) -> u32
 // Writes the guides behind a place, lowest first.
 pub(crate) fn put_guides(buffer: &mut [u8], place: usize, pool: Pool, held: Held) -> usize
     requires { ⌜ (length (pool .tones) ≡ 16) × (pool .count ≤ 16) × (place + 16 ≤ length (now buffer)) × (held .sixth ≡ holdsAny sixths (tonesIn pool)) × (held .seventh ≡ holdsAny sevenths (tonesIn pool)) ⌝ }
-    ensures { λ r. ⌜ Writes (now (buffer .entry)) place (guideKeys 51 79 (tonesIn pool)) r (now (buffer .exit)) ⌝ }
+    ensures { λ r. ⌜ Writes (now (buffer .entry)) place (guideKeys lowestKey highestKey (tonesIn pool)) r (now (buffer .exit)) ⌝ }
 {
     let once = guide_once(held.sixth, held.seventh);
     put_placed(buffer, place, offered(pool, GUIDES, once, 0, LIMIT))
@@ -119,7 +120,7 @@ pub(crate) fn put_tensions(
     lead: u8,
 ) -> usize
     requires { ⌜ (length (pool .tones) ≡ 16) × (pool .count ≤ 16) × (place + 16 ≤ length (now buffer)) × (held .sixth ≡ holdsAny sixths (tonesIn pool)) × (held .seventh ≡ holdsAny sevenths (tonesIn pool)) ⌝ }
-    ensures { λ r. ⌜ Writes (now (buffer .entry)) place (tensionKeys 51 lead (tonesIn pool)) r (now (buffer .exit)) ⌝ }
+    ensures { λ r. ⌜ Writes (now (buffer .entry)) place (tensionKeys lowestKey lead (tonesIn pool)) r (now (buffer .exit)) ⌝ }
 {
     let once = tension_once(held.sixth, held.seventh, pool.count);
     put_placed(buffer, place, offered(pool, TENSIONS, once, lead, lead))

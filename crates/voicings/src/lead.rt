@@ -14,6 +14,7 @@ ghost use mathlib.Core.Bool.{cond};
 ghost use mathlib.Core.List.{_++_};
 ghost use Prim.Native.Nat.{_+_, _-_, _≤_, _<_};
 ghost use lib.ListN.{length, take, drop};
+ghost use Rattle.voicings.specs.Range.{lowestKey, highestKey};
 ghost use Rattle.voicings.specs.Pool.{tonesIn};
 ghost use Rattle.voicings.specs.Choice.{without};
 ghost use Rattle.voicings.specs.Lead.{rubs, unbarred, owns, withoutLast, leadOf};
@@ -62,7 +63,7 @@ fn unbarred(pool: Pool) -> u32
 // The lead: the nearest key of an unbarred tone, or 0 where every tone is barred.
 pub(crate) fn lead_key(pool: Pool, wanted: u8) -> u8
     requires { ⌜ (length (pool .tones) ≡ 16) × (pool .count ≤ 16) ⌝ }
-    ensures { λ r. ⌜ r ≡ leadOf 51 79 wanted (tonesIn pool) ⌝ }
+    ensures { λ r. ⌜ r ≡ leadOf lowestKey highestKey wanted (tonesIn pool) ⌝ }
 {
     let free = unbarred(pool);
     let mut found = nothing(0);
@@ -79,7 +80,7 @@ pub(crate) fn lead_key(pool: Pool, wanted: u8) -> u8
 }
 
 fn owns(tone: Tone, key: u8) -> bool
-    ensures { λ r. ⌜ r ≡ owns 51 79 key tone ⌝ }
+    ensures { λ r. ⌜ r ≡ owns lowestKey highestKey key tone ⌝ }
 {
     let first = OCTAVE_KEY + tone.class as u32;
     let wide = key as u32;
@@ -92,7 +93,7 @@ fn owns(tone: Tone, key: u8) -> bool
 // The place of the last tone that owns a key, or the count of tones where none does.
 fn last_owner(pool: Pool, key: u8) -> usize
     requires { ⌜ (length (pool .tones) ≡ 16) × (pool .count ≤ 16) ⌝ }
-    ensures { λ r. ⌜ (r ≤ pool .count) × (withoutAt r (tonesIn pool) ≡ withoutLast 51 79 key (tonesIn pool)) ⌝ }
+    ensures { λ r. ⌜ (r ≤ pool .count) × (withoutAt r (tonesIn pool) ≡ withoutLast lowestKey highestKey key (tonesIn pool)) ⌝ }
 {
     let count = pool.count;
     let mut i = count;
@@ -127,7 +128,7 @@ fn remove(pool: Pool, place: usize) -> Pool
 // What is left of the pool once the lead has left it.
 pub(crate) fn leave(pool: Pool, lead: u8) -> Pool
     requires { ⌜ (length (pool .tones) ≡ 16) × (pool .count ≤ 16) ⌝ }
-    ensures { λ r. ⌜ (length (r .tones) ≡ 16) × (r .count ≤ 16) × (tonesIn r ≡ withoutLast 51 79 lead (tonesIn pool)) ⌝ }
+    ensures { λ r. ⌜ (length (r .tones) ≡ 16) × (r .count ≤ 16) × (tonesIn r ≡ withoutLast lowestKey highestKey lead (tonesIn pool)) ⌝ }
 {
     remove(pool, last_owner(pool, lead))
 }

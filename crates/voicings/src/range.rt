@@ -4,7 +4,7 @@ pub(crate) const LOWEST: u32 = 51;
 pub(crate) const HIGHEST: u8 = 79;
 
 // One past the highest key: a tone's keys stay below a limit.
-pub(crate) const LIMIT: u8 = 80;
+pub(crate) const LIMIT: u8 = HIGHEST + 1;
 
 // A class's lowest note in that range stands at or above this key, the class's own: C2.
 pub(crate) const OCTAVE_KEY: u32 = 48;

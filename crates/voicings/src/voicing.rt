@@ -17,8 +17,9 @@ ghost use lib.Dec.{leb};
 ghost use lib.ListN.{length, take};
 ghost use Rattle.answer.specs.Replies.{outputOf, roomAfter};
 ghost use Rattle.answer.specs.Written.{Writes};
+ghost use Rattle.voicings.specs.Range.{lowestKey, highestKey};
 ghost use Rattle.voicings.specs.Pool.{tonesIn, tonesOf};
-ghost use Rattle.voicings.specs.Voicing.{lowestKey, highestKey, wantedOf, bassKeys, aboveBass, isBass, arePairs, voicingReply};
+ghost use Rattle.voicings.specs.Voicing.{wantedOf, bassKeys, aboveBass, isBass, arePairs, voicingReply};
 
 pub enum Bass {
     None,

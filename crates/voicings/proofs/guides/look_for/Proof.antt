@@ -1,6 +1,6 @@
 -- `voicings::guides::look_for` meets its contract. The loop's invariant: what was found, or the tones that are left, decide.
 use mathlib.Core.Path.{_≡_, refl, sym, ap, _∙_}
-use mathlib.Core.Bool.{Bool, true, false, _||_}
+use mathlib.Core.Bool.{Bool, true, false, _||_, or-assoc, or-false}
 use mathlib.Core.List.{List, [], _∷_}
 use Prim.Native.Nat.{ℕ, _+_, _-_, _≤_, _<_}
 use native.Mathlib.Omega.{arith}
@@ -27,14 +27,6 @@ Inv-loop pool sixth₀ seventh₀ i₀ sixth seventh i =
 
 abbrev μ-loop : tie.MeasureT-loop
 μ-loop pool sixth₀ seventh₀ i₀ sixth seventh i = pool .count - i
-
-or-assoc : (a b c : Bool) → (a || b) || c ≡ a || (b || c)
-or-assoc true b c = refl
-or-assoc false b c = refl
-
-or-false : (b : Bool) → b || false ≡ b
-or-false true = refl
-or-false false = refl
 
 module _ (set : ℕ) (tones : List Tone) (n i : ℕ) (found : Bool) (inv : Finds set tones n i found) where
   -- one tone more

@@ -1,7 +1,7 @@
 -- `voicings::lead::lead_key` meets its contract. The loop's invariant: the best of what was found and of what the tones left offer is the
 -- best of all.
 use mathlib.Core.Path.{_≡_, refl, sym, ap, _∙_}
-use mathlib.Core.Bool.{Bool, true, false, cond, _&&_, _||_}
+use mathlib.Core.Bool.{Bool, true, false, cond, _&&_, _||_, or-false}
 use mathlib.Core.List.{List, [], _∷_, map}
 use mathlib.Core.Logic.{⊎-elim}
 use Prim.Native.Nat.{ℕ, _+_, _-_, _/_, _%_, _^_, _≤_, _<_}
@@ -39,10 +39,6 @@ abbrev μ-loop : tie.MeasureT-loop
 none-in : (k : ℕ) → has 0 k ≡ false
 unfolding has
 none-in k = ap (λ (x : ℕ). eqb (x % 2) 1) (zero-div (2 ^ k))
-
-or-false : (b : Bool) → b || false ≡ b
-or-false true = refl
-or-false false = refl
 
 chosen-free : (free : ℕ) (t : Tone) (l : List Tone) → chosen free 0 (t ∷ l) ≡ cond (has free (t .interval)) (t ∷ chosen free 0 l) (chosen free 0 l)
 unfolding chosen without
