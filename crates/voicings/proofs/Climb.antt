@@ -12,7 +12,7 @@ use native.Mathlib.Decide.{decLt}
 use native.Mathlib.Omega.{arith}
 use lib.Dec.{leb, ltb}
 use borrow.Author.Tests.{lt-ltb, le-ltb, lt-leb, le-leb}
-use Rattle.voicings.specs.declared.offers.Offer.{Offer}
+use Rattle.voicings.specs.declared.keys.Offer.{Offer}
 use Rattle.voicings.specs.Choice.{keysFrom, distance, offer, nothing, sooner, best}
 use Rattle.voicings.specs.Offered.{firstKey}
 

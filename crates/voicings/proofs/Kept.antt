@@ -14,7 +14,7 @@ use Rattle.answer.proofs.Tests.{all, at, is-true, said}
 use Rattle.chord.specs.Sets.{has}
 use Rattle.chord.proofs.Members.{taken-has}
 use Rattle.voicings.specs.declared.pool.Tone.{Tone}
-use Rattle.voicings.specs.declared.offers.Offer.{Offer}
+use Rattle.voicings.specs.declared.keys.Offer.{Offer}
 use Rattle.voicings.specs.Choice.{without, chosen}
 use Rattle.voicings.specs.Offered.{nearestOf, keep, otherOffers}
 use Rattle.voicings.proofs.Digit.{within}

@@ -17,7 +17,7 @@ use lib.Dec.{eqb, leb, ltb}
 use lib.ListN.{length}
 use Rattle.chord.specs.Sets.{has}
 use Rattle.voicings.specs.declared.pool.Tone.{Tone}
-use Rattle.voicings.specs.declared.offers.Offer.{Offer}
+use Rattle.voicings.specs.declared.keys.Offer.{Offer}
 
 unfoldable pub keysFrom : ℕ → ℕ → ℕ → ℕ → List ℕ
 keysFrom lowest limit zero key = []

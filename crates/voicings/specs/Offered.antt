@@ -12,7 +12,7 @@ use lib.Dec.{eqb, ltb}
 use lib.ListN.{take}
 use Rattle.chord.specs.Sets.{has}
 use Rattle.voicings.specs.declared.pool.Tone.{Tone}
-use Rattle.voicings.specs.declared.offers.Offer.{Offer}
+use Rattle.voicings.specs.declared.keys.Offer.{Offer}
 use Rattle.voicings.specs.declared.offers.Offers.{Offers}
 use Rattle.voicings.specs.Range.{lowestKey}
 use Rattle.voicings.specs.Choice.{nothing, best, offersOf}

@@ -1,8 +1,8 @@
 // The lead: the key of an unbarred tone that is nearest to the wanted one, and what the pool is once it has left.
 use crate::bits::in_set;
-use crate::offers::distance;
-use crate::offers::nearest;
-use crate::offers::nothing;
+use crate::keys::distance;
+use crate::keys::nearest;
+use crate::keys::nothing;
 use crate::pool::Pool;
 use crate::pool::Tone;
 use crate::range::HIGHEST;

@@ -13,7 +13,7 @@ use lib.Seq.{slice}
 use borrow.Author.Needs.{needs}
 use Rattle.chord.specs.Sets.{has}
 use Rattle.voicings.specs.declared.pool.Tone.{Tone}
-use Rattle.voicings.specs.declared.offers.Offer.{Offer}
+use Rattle.voicings.specs.declared.keys.Offer.{Offer}
 use Rattle.voicings.specs.Pool.{tonesIn}
 use Rattle.voicings.specs.Choice.{nothing, sooner, best, without, chosen, bestOf}
 use Rattle.voicings.specs.Offered.{nearestOf}

@@ -1,8 +1,8 @@
--- `voicings::offers::distance` meets its contract: by which is the greater.
+-- `voicings::keys::distance` meets its contract: by which is the greater.
 use borrow.Author.Needs.{needs}
 use borrow.Author.Tests.{lt-ltb, le-ltb}
-use Rattle.voicings.proofs.offers.distance.Statement.{statement}
-use Rattle.voicings.proofs.offers.distance.Tie as tie
+use Rattle.voicings.proofs.keys.distance.Statement.{statement}
+use Rattle.voicings.proofs.keys.distance.Tie as tie
 
 pub distance-spec : {M : Type 1} → statement M
 distance-spec =

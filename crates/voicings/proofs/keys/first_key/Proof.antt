@@ -1,8 +1,8 @@
--- `voicings::offers::first_key` meets its contract: by whether the class's own key is below the range.
+-- `voicings::keys::first_key` meets its contract: by whether the class's own key is below the range.
 use borrow.Author.Needs.{needs}
 use borrow.Author.Tests.{lt-ltb, le-ltb}
-use Rattle.voicings.proofs.offers.first_key.Statement.{statement}
-use Rattle.voicings.proofs.offers.first_key.Tie as tie
+use Rattle.voicings.proofs.keys.first_key.Statement.{statement}
+use Rattle.voicings.proofs.keys.first_key.Tie as tie
 
 pub first-key-spec : {M : Type 1} → statement M
 first-key-spec =
