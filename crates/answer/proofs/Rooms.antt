@@ -5,8 +5,7 @@
 --     no-room       a text longer than the room: refusal 7
 --     written       a text that has room stands at the front
 --     copied        a turn of the loop that writes it
-use mathlib.Core.Path.{_≡_, refl, sym, ap, subst, _∙_}
-use mathlib.Core.Bool.{Bool, cond}
+use mathlib.Core.Path.{_≡_, refl, sym, subst}
 use mathlib.Core.List.{List, _++_}
 use Prim.Native.Nat.{ℕ, _+_, _≤_, _<_}
 use native.Mathlib.Nat.{zero-add}

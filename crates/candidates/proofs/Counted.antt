@@ -3,7 +3,7 @@
 use mathlib.Core.Path.{_≡_, refl, sym, ap, ap₂, _∙_}
 use mathlib.Core.Bool.{Bool, true, false, cond}
 use Prim.Native.Nat.{ℕ, zero, suc, _+_, _/_, _%_, _^_, _<_}
-use native.Mathlib.Nat.{add-assoc, add-comm, add-zero, zero-add, div-one, div-div-eq-div-mul, pow-succ'}
+use native.Mathlib.Nat.{add-assoc, add-comm, div-one, div-div-eq-div-mul, pow-succ'}
 use native.Mathlib.Omega.{arith}
 use lib.Count.{ones, onesIn}
 use Rattle.chord.specs.Sets.{has, countBelow, classCount}

@@ -4,19 +4,18 @@
 --     pass, place     a key whose class has occurred, and one whose class has not
 --     found           what it has found at the end
 --     bit-held        the bit of a key's class, as the code shifts it
-use mathlib.Core.Path.{_≡_, refl, sym, ap, subst, _∙_}
+use mathlib.Core.Path.{_≡_, refl, sym, ap, _∙_}
 use mathlib.Core.Bool.{Bool, true, false, cond}
 use mathlib.Core.List.{List, [], _∷_, _++_, append-nil, append-assoc}
-use Prim.Native.Nat.{ℕ, zero, suc, _+_, _*_, _/_, _%_, _^_, _<_, _≤_}
+use Prim.Native.Nat.{ℕ, _+_, _*_, _%_, _^_, _<_, _≤_}
 use native.Mathlib.Nat.{one-mul}
 use native.Mathlib.Numerals.{add-one}
 use native.Mathlib.Omega.{arith}
 use lib.Count.{ones, ones-le}
 use lib.Dec.{lit<}
-use lib.ListN.{length, take, drop, getD, set, length-set, length-append}
+use lib.ListN.{length, take, drop, getD, set}
 use lib.Pow.{pow-lt, shl-exact}
 use lib.Seq.{drop-cons, drop-length, take-suc-set, length-take-le}
-use borrow.Author.Tests.{eq-eqb, ne-eqb}
 use Rattle.chord.specs.Sets.{has}
 use Rattle.candidates.specs.Keys.{keyClass, withClass, gathered, classSet, fresh, firsts, Finds}
 use Rattle.chord.proofs.Members.{joined-less, joined-ones}

@@ -2,15 +2,14 @@
 --     seen-next     one class more of the walk, as the code adds it
 --     seen-less     the classes below n are below 2^n
 --     seen-rooted   a set seen from one of its classes is rooted
-use mathlib.Core.Path.{_≡_, refl, sym, ap, subst, _∙_}
+use mathlib.Core.Path.{_≡_, refl, ap, _∙_}
 use mathlib.Core.Bool.{Bool, true, false, cond}
-use Prim.Native.Nat.{ℕ, zero, suc, _+_, _*_, _/_, _%_, _^_, _<_, _≤_}
-use native.Mathlib.Nat.{mod-eq-of-lt, zero-mul, one-mul, pow-suc, zero-add, add-zero}
+use Prim.Native.Nat.{ℕ, zero, suc, _+_, _*_, _/_, _%_, _^_, _<_}
+use native.Mathlib.Nat.{zero-mul, one-mul, pow-suc}
 use native.Mathlib.Numerals.{add-one}
 use native.Mathlib.Omega.{arith}
-use lib.Dec.{eqb, lit<}
+use lib.Dec.{lit<}
 use lib.Pow.{shl-exact, pow-pos}
-use borrow.Author.Tests.{eqb-true}
 use Rattle.chord.specs.Sets.{has}
 use Rattle.candidates.specs.Keys.{seenBelow, seenFrom}
 use Rattle.chord.proofs.Members.{held, absent}

@@ -8,7 +8,6 @@
 --     taken-has       a set with a class taken out that it had: it has the others
 use mathlib.Core.Path.{_≡_, refl, sym, ap, ap₂, subst, _∙_}
 use mathlib.Core.Bool.{Bool, true, false, not, cond, _&&_, _||_, and-true}
-use mathlib.Core.Logic.{⊎-elim}
 use Prim.Native.Nat.{ℕ, zero, suc, _+_, _-_, _*_, _/_, _%_, _^_, _<_, _≤_, max}
 use native.Mathlib.Nat.{div-add-mod', mod-lt, max-le, max-zero, max-eq-right, add-mul, one-mul, zero-add, suc-add, add-sub-of-le, div-self, div-eq-of-lt, mul-div-cancel-left, mul-mod-left, pow-suc, add-div-right}
 use native.Mathlib.Decide.{decLe}

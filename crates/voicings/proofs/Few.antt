@@ -1,6 +1,5 @@
 -- How many keys are placed: never more than the pool has tones.
 --     few-guides, few-tensions
-use mathlib.Core.Path.{_≡_, refl}
 use mathlib.Core.Bool.{Bool, true, false, cond, _||_}
 use mathlib.Core.List.{List, [], _∷_}
 use Prim.Native.Nat.{ℕ, zero, suc, _≤_}

@@ -2,15 +2,14 @@
 --     without-has    a set without a number has the others
 --     keep-without   so the offers that it keeps are those of other intervals
 --     keep-all       every offer of a chosen tone has one of 32 intervals
-use mathlib.Core.Path.{_≡_, refl, sym, ap, ap₂, subst, _∙_}
+use mathlib.Core.Path.{_≡_, refl, sym, ap, _∙_}
 use mathlib.Core.Bool.{Bool, true, false, not, cond, _&&_, _||_, and-true}
 use mathlib.Core.List.{List, [], _∷_, map}
-use mathlib.Core.Logic.{⊎-elim}
-use Prim.Native.Nat.{ℕ, zero, suc, _-_, _^_, _≤_, _<_}
+use Prim.Native.Nat.{ℕ, _-_, _^_, _<_}
 use native.Mathlib.Omega.{arith}
 use lib.Dec.{T, eqb}
 use borrow.Author.Tests.{eqb-true}
-use Rattle.answer.proofs.Tests.{all, at, is-true, said}
+use Rattle.answer.proofs.Tests.{all, at, is-true}
 use Rattle.chord.specs.Sets.{has}
 use Rattle.chord.proofs.Members.{taken-has}
 use Rattle.voicings.specs.declared.pool.Tone.{Tone}

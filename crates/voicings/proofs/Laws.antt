@@ -1,8 +1,8 @@
 -- Theorems on the definitions of the voicing.
 --     two-or-three    "two or three keys, never none": a note class has so many in the range, by a test of the twelve
 --     bars-one        a tone bars its successor's interval and no other
-use mathlib.Core.Path.{_≡_, refl, sym, ap, _∙_}
-use mathlib.Core.Bool.{Bool, true, false, not, cond, _&&_}
+use mathlib.Core.Path.{_≡_}
+use mathlib.Core.Bool.{Bool, true, not, cond, _&&_}
 use Prim.Native.Nat.{ℕ, _≤_, _<_}
 use lib.Dec.{T, eqb, leb, leb→le}
 use lib.ListN.{length}

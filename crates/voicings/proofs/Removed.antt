@@ -4,16 +4,14 @@
 --     last-gone   the tone at a place that owns a key, with none behind that does, is the last that owns it
 --     none-gone   where no tone owns the key, none leaves
 use mathlib.Core.Path.{_≡_, refl, sym, ap, _∙_}
-use mathlib.Core.Bool.{Bool, true, false, cond, _||_}
+use mathlib.Core.Bool.{Bool, true, false, _||_}
 use mathlib.Core.List.{List, [], _∷_, _++_}
 use Prim.Native.Nat.{ℕ, zero, suc, _+_, _≤_, _<_}
 use native.Mathlib.Nat.{not-suc-le-zero, le-of-suc-le-suc}
 use native.Mathlib.Numerals.{add-one}
-use native.Mathlib.Omega.{arith}
-use lib.Dec.{T}
 use lib.ListN.{length, take, drop, getD}
-use lib.Seq.{slice, getD-take, length-take-le, drop-nil}
-use Rattle.answer.proofs.Tests.{is-true, said}
+use lib.Seq.{slice, getD-take, length-take-le}
+use Rattle.answer.proofs.Tests.{said}
 use Rattle.voicings.specs.declared.pool.Tone.{Tone}
 use Rattle.voicings.specs.Lead.{owns, isOwned, withoutLast}
 use Rattle.voicings.specs.Owners.{withoutAt}

@@ -2,11 +2,10 @@
 --     started    what the pool bars, begun behind its last tone
 use mathlib.Core.Path.{_≡_, refl, sym, ap, _∙_}
 use mathlib.Core.List.{List, [], _∷_}
-use Prim.Native.Nat.{ℕ, zero, suc, _+_, _-_, _≤_, _<_}
+use Prim.Native.Nat.{ℕ, zero, suc, _-_, _≤_, _<_}
 use native.Mathlib.Nat.{not-suc-le-zero, le-of-suc-le-suc}
 use native.Mathlib.Omega.{arith}
 use lib.ListN.{length, take, getD}
-use Rattle.chord.specs.Sets.{bits}
 use Rattle.chord.specs.Intervals.{intervals, setOf}
 use Rattle.voicings.specs.declared.pool.Tone.{Tone}
 use Rattle.voicings.specs.Lead.{barring, lastOf, unbarred}

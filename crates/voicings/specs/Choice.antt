@@ -10,7 +10,7 @@
 --     chosen       the tones of a whole set of intervals, and the first tone of each interval of another
 --     others       the tones of other intervals: "a placed interval leaves with all its duplicates"
 --     placed       the keys of some tones, the best first; each turn takes at least a tone away
-use mathlib.Core.Bool.{Bool, not, cond, _&&_, _||_}
+use mathlib.Core.Bool.{cond, _&&_, _||_}
 use mathlib.Core.List.{List, [], _∷_, _++_, map}
 use Prim.Native.Nat.{ℕ, zero, suc, _+_, _-_, _^_}
 use lib.Dec.{eqb, leb, ltb}

@@ -1,8 +1,8 @@
 -- Guides and tensions: paper 01, "Voicing (001)" ("Guides, lowest first, ignore the lead. Tensions, highest first, stay strictly below
 -- it; both as in 001"; "All counts of the pool are taken after the lead has left").
---     holds          the pool has a tone of one of some intervals
---     sixth          001's "has sixth or dim seventh"
---     seventh        001's "has minor seventh"
+--     holdsAny       the pool has a tone of one of some intervals
+--     sixths         those of 001's "has sixth or dim seventh"
+--     sevenths       that of 001's "has minor seventh"
 --     guides         the intervals whose tones are guides, and tensions those whose tones are tensions
 --     guideOnce      the interval of which the first tone is a guide too: "If Minor seventh is present, major sixth is handled as
 --                    tension; if sixth or dim7 is present maj7 is handled as tension"

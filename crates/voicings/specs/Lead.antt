@@ -8,7 +8,7 @@
 --     withoutLast  "The last tone owning that key, barred or not, leaves the pool"
 use mathlib.Core.Bool.{Bool, false, cond, _||_}
 use mathlib.Core.List.{List, [], _∷_}
-use Prim.Native.Nat.{ℕ, suc, _-_, _^_}
+use Prim.Native.Nat.{ℕ, suc}
 use lib.Dec.{eqb}
 use Rattle.chord.specs.Sets.{isIn}
 use Rattle.chord.specs.Intervals.{intervals, setOf}

@@ -11,9 +11,8 @@ use answer::output::Output;
 use answer::output::give;
 use answer::refusal::Refusal;
 ghost use mathlib.Core.Path.{_≡_};
-ghost use mathlib.Core.Bool.{true, _&&_};
+ghost use mathlib.Core.Bool.{true};
 ghost use Prim.Native.Nat.{_+_, _≤_};
-ghost use lib.Dec.{leb};
 ghost use lib.ListN.{length, take};
 ghost use Rattle.answer.specs.Replies.{outputOf, roomAfter};
 ghost use Rattle.answer.specs.Written.{Writes};
@@ -39,6 +38,8 @@ pub struct Chord {
 }
 
 const LAST_CLASS: u32 = 11;
+
+const LAST_NOTE: u8 = 11;
 
 const LAST_INTERVAL: u8 = 22;
 
@@ -81,7 +82,7 @@ fn are_pairs(classes: &[u8], intervals: &[u8], count: usize) -> bool
 {
     let mut i = 0;
     while i < count {
-        if classes[i] > 11 {
+        if classes[i] > LAST_NOTE {
             return false;
         }
         if intervals[i] > LAST_INTERVAL {

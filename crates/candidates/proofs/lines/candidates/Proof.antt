@@ -1,15 +1,14 @@
 -- `candidates::lines::candidates` meets its contract: the classes are found, their lines fill a buffer from the front, and those are given.
 use mathlib.Core.Path.{_≡_, ap, ap₂, sym, subst, _∙_}
 use mathlib.Core.List.{List}
-use Prim.Native.Nat.{ℕ, _<_, _≤_}
+use Prim.Native.Nat.{ℕ}
 use native.Mathlib.Omega.{arith}
 use lib.ListN.{length, take}
 use denote.Ref.{now}
 use borrow.Author.Needs.{needs}
-use Rattle.answer.specs.Replies.{text, outputOf, roomAfter}
 use Rattle.answer.proofs.Writing.{counted, within}
 use Rattle.inference.specs.Names.{flats}
-use Rattle.candidates.specs.Keys.{classSet, firsts, Finds}
+use Rattle.candidates.specs.Keys.{Finds}
 use Rattle.candidates.specs.Candidates.{Classes, listing, candidatesOf}
 use Rattle.candidates.proofs.Heard.{firsts-heard, firsts-less}
 use Rattle.candidates.proofs.lines.candidates.Statement.{statement}

@@ -1,15 +1,12 @@
 -- `listing::search::listing` meets its contract: what was found stands at the front of the buffer, and that is given.
-use mathlib.Core.Path.{_≡_, ap, sym, _∙_}
+use mathlib.Core.Path.{ap, sym, _∙_}
 use mathlib.Core.List.{List, []}
-use Prim.Native.Nat.{_≤_}
 use native.Mathlib.Omega.{arith}
-use lib.ListN.{length, take}
 use denote.Ref.{now}
 use borrow.Author.Needs.{needs}
 use Rattle.answer.specs.Replies.{text, outputOf, roomAfter}
 use Rattle.answer.proofs.Rooms.{written}
 use Rattle.answer.proofs.Writing.{counted, within}
-use Rattle.listing.specs.Listing.{listingOf}
 use Rattle.listing.proofs.Laws.{long-listing}
 use Rattle.listing.proofs.search.listing.Statement.{statement}
 use Rattle.listing.proofs.search.listing.Tie as tie

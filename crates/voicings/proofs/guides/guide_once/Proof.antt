@@ -1,6 +1,4 @@
 -- `voicings::guides::guide_once` meets its contract: by what the pool holds.
-use mathlib.Core.Path.{_≡_}
-use borrow.Author.Needs.{needs}
 use borrow.Author.Tests.{not-true, not-false}
 use Rattle.chord.specs.Intervals.{setOf}
 use Rattle.voicings.proofs.guides.guide_once.Statement.{statement}

@@ -1,7 +1,7 @@
 -- `voicings::guides::look_for` meets its contract. The loop's invariant: what was found, or the tones that are left, decide.
 use mathlib.Core.Path.{_≡_, refl, sym, ap, _∙_}
-use mathlib.Core.Bool.{Bool, true, false, _||_, or-assoc, or-false}
-use mathlib.Core.List.{List, [], _∷_}
+use mathlib.Core.Bool.{Bool, _||_, or-assoc, or-false}
+use mathlib.Core.List.{List}
 use Prim.Native.Nat.{ℕ, _+_, _-_, _≤_, _<_}
 use native.Mathlib.Omega.{arith}
 use lib.ListN.{length, getD}
@@ -10,7 +10,6 @@ use borrow.Author.Needs.{needs}
 use Rattle.chord.specs.Sets.{has}
 use Rattle.chord.specs.Intervals.{setOf}
 use Rattle.voicings.specs.declared.pool.Tone.{Tone}
-use Rattle.voicings.specs.Pool.{tonesIn}
 use Rattle.voicings.specs.Guides.{holdsAny, sixths, sevenths}
 use Rattle.voicings.proofs.Left.{next, none}
 use Rattle.voicings.proofs.Order.{blank}

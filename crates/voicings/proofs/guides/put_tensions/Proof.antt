@@ -1,6 +1,5 @@
 -- `voicings::guides::put_tensions` meets its contract: the tensions' offers are placed.
 use mathlib.Core.Path.{_≡_, sym, ap, _∙_}
-use Prim.Native.Nat.{ℕ, _≤_}
 use native.Mathlib.Omega.{arith}
 use lib.ListN.{length}
 use lib.Seq.{length-take-le}

@@ -1,10 +1,8 @@
 -- `voicings::lead::last_owner` meets its contract. The loop's invariant: none of the tones from the place on owns the key.
-use mathlib.Core.Path.{_≡_, refl, sym, ap, _∙_}
-use mathlib.Core.Bool.{false, _||_}
-use mathlib.Core.List.{List, [], _∷_}
-use Prim.Native.Nat.{ℕ, _+_, _-_, _≤_, _<_}
+use mathlib.Core.Path.{_≡_, sym, ap, _∙_}
+use mathlib.Core.Bool.{false}
+use Prim.Native.Nat.{ℕ, _+_, _-_, _≤_}
 use native.Mathlib.Omega.{arith}
-use lib.ListN.{length, take, getD}
 use lib.Seq.{slice, length-take-le}
 use borrow.Author.Needs.{needs}
 use Rattle.voicings.specs.declared.pool.Tone.{Tone}

@@ -1,10 +1,10 @@
 -- `voicings::lead::lead_key` meets its contract. The loop's invariant: the best of what was found and of what the tones left offer is the
 -- best of all.
-use mathlib.Core.Path.{_≡_, refl, sym, ap, _∙_}
-use mathlib.Core.Bool.{Bool, true, false, cond, _&&_, _||_, or-false}
-use mathlib.Core.List.{List, [], _∷_, map}
+use mathlib.Core.Path.{_≡_, sym, ap, _∙_}
+use mathlib.Core.Bool.{Bool, true, false, cond, _&&_, or-false}
+use mathlib.Core.List.{List, _∷_, map}
 use mathlib.Core.Logic.{⊎-elim}
-use Prim.Native.Nat.{ℕ, _+_, _-_, _/_, _%_, _^_, _≤_, _<_}
+use Prim.Native.Nat.{ℕ, _+_, _-_, _%_, _^_, _≤_, _<_}
 use native.Mathlib.Nat.{zero-div}
 use native.Mathlib.Omega.{arith}
 use lib.Dec.{eqb, ltb}
@@ -15,7 +15,7 @@ use Rattle.chord.specs.Sets.{has}
 use Rattle.voicings.specs.declared.pool.Tone.{Tone}
 use Rattle.voicings.specs.declared.keys.Offer.{Offer}
 use Rattle.voicings.specs.Pool.{tonesIn}
-use Rattle.voicings.specs.Choice.{nothing, sooner, best, without, chosen, bestOf}
+use Rattle.voicings.specs.Choice.{nothing, best, without, chosen, bestOf}
 use Rattle.voicings.specs.Offered.{nearestOf}
 use Rattle.voicings.specs.Lead.{leadOf}
 use Rattle.voicings.proofs.Best.{nearer}

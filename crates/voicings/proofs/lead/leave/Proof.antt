@@ -1,6 +1,5 @@
 -- `voicings::lead::leave` meets its contract: the tone at the place of the last that owns the lead leaves.
-use mathlib.Core.Path.{_≡_, _∙_}
-use borrow.Author.Needs.{needs}
+use mathlib.Core.Path.{_∙_}
 use Rattle.voicings.proofs.lead.leave.Statement.{statement}
 use Rattle.voicings.proofs.lead.leave.Tie as tie
 

@@ -1,12 +1,11 @@
 -- `voicings::lead::remove` meets its contract. The loop's invariant: those put in front, with those behind the next, are the pool without
 -- the tone.
-use mathlib.Core.Path.{_≡_, refl, sym, ap, _∙_}
-use mathlib.Core.List.{List, [], _∷_, _++_, append-nil}
+use mathlib.Core.Path.{_≡_, sym, ap, _∙_}
+use mathlib.Core.List.{List, _∷_, _++_, append-nil}
 use Prim.Native.Nat.{ℕ, _+_, _-_, _≤_, _<_}
 use native.Mathlib.Omega.{arith}
 use lib.ListN.{length, take, getD, set, length-set}
 use lib.Seq.{slice, length-take-le}
-use borrow.Author.Needs.{needs}
 use Rattle.voicings.specs.declared.pool.Tone.{Tone}
 use Rattle.voicings.specs.Pool.{tonesIn}
 use Rattle.voicings.specs.Owners.{withoutAt}

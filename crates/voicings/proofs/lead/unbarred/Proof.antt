@@ -1,10 +1,10 @@
 -- `voicings::lead::unbarred` meets its contract. The loop's invariant: what the tones that are left bar, behind the one before them,
 -- leaves the set that the whole pool leaves.
-use mathlib.Core.Path.{_≡_, refl, sym, ap, _∙_}
-use mathlib.Core.List.{List, [], _∷_}
-use Prim.Native.Nat.{ℕ, _+_, _-_, _≤_, _<_}
+use mathlib.Core.Path.{_≡_, sym, ap, _∙_}
+use mathlib.Core.List.{List}
+use Prim.Native.Nat.{ℕ, _+_, _-_, _≤_}
 use native.Mathlib.Omega.{arith}
-use lib.ListN.{length, take, getD}
+use lib.ListN.{take, getD}
 use lib.Seq.{slice}
 use borrow.Author.Needs.{needs}
 use Rattle.voicings.specs.declared.pool.Tone.{Tone}

@@ -1,5 +1,5 @@
 -- `voicings::pool::base` meets its contract: by what the number names.
-use mathlib.Core.Path.{_≡_, sym, ap, _∙_}
+use mathlib.Core.Path.{sym, ap, _∙_}
 use Prim.Native.Nat.{ℕ, _%_}
 use borrow.Author.Needs.{needs}
 use Rattle.voicings.specs.Pool.{baseNamed}

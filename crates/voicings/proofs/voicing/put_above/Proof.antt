@@ -1,13 +1,11 @@
 -- `voicings::voicing::put_above` meets its contract: guides, tensions and lead stand behind one another.
-use mathlib.Core.Path.{_≡_, refl, sym, ap, ap₂, _∙_}
+use mathlib.Core.Path.{_≡_, ap, ap₂, _∙_}
 use mathlib.Core.List.{List, [], _∷_, _++_}
 use Prim.Native.Nat.{ℕ, _+_, _≤_, _<_}
 use native.Mathlib.Omega.{arith}
-use lib.ListN.{length, set, length-set}
+use lib.ListN.{length, length-set}
 use lib.Seq.{length-take-le}
-use denote.Ref.{now}
 use borrow.Author.Needs.{needs}
-use Rattle.answer.specs.Written.{Writes}
 use Rattle.answer.proofs.Writing.{also, stored, same-text}
 use Rattle.voicings.specs.declared.pool.Tone.{Tone}
 use Rattle.voicings.specs.Pool.{tonesIn}

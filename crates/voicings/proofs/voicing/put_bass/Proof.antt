@@ -1,16 +1,14 @@
 -- `voicings::voicing::put_bass` meets its contract: by whether there is a bass.
-use mathlib.Core.Path.{_≡_, refl, sym, ap, subst, _∙_}
-use mathlib.Core.Bool.{true}
+use mathlib.Core.Path.{refl, sym, ap, _∙_}
 use mathlib.Core.List.{List, [], _∷_}
-use Prim.Native.Nat.{ℕ, _+_, _≤_}
+use Prim.Native.Nat.{ℕ, _≤_}
 use native.Mathlib.Omega.{arith}
 use lib.Dec.{leb→le}
-use lib.ListN.{length, take, set}
+use lib.ListN.{length, set}
 use borrow.Author.Needs.{needs}
 use Rattle.answer.specs.Written.{Writes}
 use Rattle.answer.proofs.Tests.{said}
-use Rattle.voicings.specs.Voicing.{bassKeys, isBass}
-use Rattle.voicings.specs.declared.voicing.Bass.{Bass}
+use Rattle.voicings.specs.Voicing.{isBass}
 use Rattle.voicings.proofs.voicing.put_bass.Statement.{statement}
 use Rattle.voicings.proofs.voicing.put_bass.Tie as tie
 

@@ -1,7 +1,6 @@
 -- `voicings::voicing::used` meets its contract: by which range is the shorter.
-use mathlib.Core.Path.{_≡_, sym}
+use mathlib.Core.Path.{sym}
 use native.Mathlib.Omega.{arith}
-use borrow.Author.Needs.{needs}
 use Rattle.voicings.proofs.Replied.{used-classes, used-intervals}
 use Rattle.voicings.proofs.voicing.used.Statement.{statement}
 use Rattle.voicings.proofs.voicing.used.Tie as tie

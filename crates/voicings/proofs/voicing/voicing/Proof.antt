@@ -1,10 +1,9 @@
 -- `voicings::voicing::voicing` meets its contract: the tests say what the call has to give, and `give` gives it.
-use mathlib.Core.Path.{_≡_, refl, sym, ap, ap₂, subst, _∙_}
-use mathlib.Core.Bool.{Bool, true, false, _&&_}
+use mathlib.Core.Path.{_≡_, sym, ap, ap₂, subst, _∙_}
+use mathlib.Core.Bool.{Bool, true, _&&_}
 use mathlib.Core.List.{List, _++_}
 use Prim.Native.Nat.{ℕ, _+_, _≤_, _<_}
 use native.Mathlib.Omega.{arith}
-use native.Mathlib.Nat.{zero-add}
 use lib.Dec.{leb, leb→le}
 use lib.ListN.{length, take, replicate}
 use denote.Ref.{now}
@@ -15,8 +14,8 @@ use Rattle.answer.proofs.Rooms.{Answered, refused-by}
 use Rattle.answer.proofs.Tests.{left, right, is-true, said, refused, admitted}
 use Rattle.answer.proofs.Writing.{also, same-text, counted, within}
 use Rattle.voicings.specs.declared.pool.Tone.{Tone}
-use Rattle.voicings.specs.Pool.{tonesIn, tonesOf, sorted}
-use Rattle.voicings.specs.Voicing.{bassKeys, aboveBass, wantedOf, isBass, arePairs, voicingOf}
+use Rattle.voicings.specs.Pool.{tonesOf, sorted}
+use Rattle.voicings.specs.Voicing.{bassKeys, aboveBass, isBass, arePairs, voicingOf}
 use Rattle.voicings.proofs.Replied.{few-classes, few-intervals, first-used, no-class, too-many, bad-pair, told, few-bass}
 use Rattle.voicings.proofs.voicing.voicing.Statement.{statement}
 use Rattle.voicings.proofs.voicing.voicing.Tie as tie

@@ -1,6 +1,6 @@
 -- `chord::note::Note::get_note` meets its contract: the tests say which case of its answer holds.
-use mathlib.Core.Path.{_≡_, ap}
-use Prim.Native.Nat.{_<_, _≤_}
+use mathlib.Core.Path.{ap}
+use Prim.Native.Nat.{_<_}
 use native.Mathlib.Omega.{arith}
 use borrow.Author.Needs.{needs}
 use borrow.Author.Tests.{le-leb, lt-leb}

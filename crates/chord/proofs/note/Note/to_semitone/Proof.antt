@@ -1,5 +1,5 @@
 -- `chord::note::Note::to_semitone` meets its contract.
-use mathlib.Core.Path.{_≡_, ap}
+use mathlib.Core.Path.{ap}
 use borrow.Author.Needs.{needs}
 use Rattle.answer.proofs.Tests.{refused, admitted}
 use Rattle.chord.specs.Notes.{semitoneAnswer}

@@ -1,7 +1,7 @@
 -- `chord::note::Note::to_word` meets its contract: the letter's byte, and the signs of its height behind it.
-use mathlib.Core.Path.{_≡_, ap, ap₂, sym, _∙_}
-use mathlib.Core.List.{List, _∷_}
-use Prim.Native.Nat.{ℕ, _+_}
+use mathlib.Core.Path.{ap, ap₂, sym, _∙_}
+use mathlib.Core.List.{_∷_}
+use Prim.Native.Nat.{_+_}
 use native.Mathlib.Omega.{arith}
 use lib.IntN.{ℤ}
 use borrow.Author.Needs.{needs}
@@ -10,7 +10,7 @@ use Rattle.answer.proofs.Digits.{packed-cons}
 use Rattle.answer.proofs.Tests.{refused, admitted}
 use Rattle.chord.specs.Notes.{countOf}
 use Rattle.chord.specs.NoteText.{letterName, signs, noteName}
-use Rattle.chord.specs.Heights.{heightOf, behindLetter}
+use Rattle.chord.specs.Heights.{behindLetter}
 use Rattle.chord.proofs.Counts.{lowered, lowered-height}
 use Rattle.chord.proofs.Moves.{letter-less, is-count, height-is}
 use Rattle.chord.proofs.note.Note.to_word.Statement.{statement}
