@@ -42,8 +42,8 @@ few-of lowest limit wanted whole once tones =
 
 pub few-guides : (lowest highest : ℕ) (pool : List Tone) → length (guideKeys lowest highest pool) ≤ length pool
 unfolding guideKeys
-few-guides lowest highest pool = few-of lowest (suc highest) 0 _ _ pool
+few-guides lowest highest pool = few-of lowest _ _ _ _ pool
 
 pub few-tensions : (lowest lead : ℕ) (pool : List Tone) → length (tensionKeys lowest lead pool) ≤ length pool
 unfolding tensionKeys
-few-tensions lowest lead pool = few-of lowest lead lead _ _ pool
+few-tensions lowest lead pool = few-of lowest _ _ _ _ pool

@@ -7,6 +7,7 @@ use native.Mathlib.Omega.{arith}
 use lib.ListN.{length, take, length-take}
 use borrow.Author.Needs.{needs}
 use Rattle.answer.specs.Words.{packed}
+use Rattle.answer.proofs.Rooms.{refused as no}
 use Rattle.answer.proofs.Digits.{put-first}
 use Rattle.answer.proofs.Tests.{refused, admitted}
 use Rattle.chord.specs.Notes.{isNote}
