@@ -1,5 +1,7 @@
-# What the commands of this folder share: the carried Rust is as it was carried, and the machine has what they need,
-# installed from Debian where it is missing.
+# What the commands of this folder share: the carried Rust is as it was carried, the machine has what they need, installed
+# from Debian where it is missing, and the library's archive with a way to link and run programs over it.
+
+archive=target/staticlib/libhemotusap.a
 
 fail() {
   printf '%s: %s\n' "${0##*/}" "$*" >&2
@@ -43,4 +45,30 @@ need_rust() {
   version=$(rustc --version)
   [[ $version =~ ^rustc\ 1\.([0-9]+)\. && ${BASH_REMATCH[1]} -ge 85 ]] ||
     fail "the carried Rust is of edition 2024, which needs rustc 1.85 or later; here is $version"
+}
+
+build_archive() {
+  rt staticlib hemotusap
+}
+
+# Archives of the library are x86-64, so that an Arm machine cross-compiles and emulates. There gcc links C++ too, with
+# -lstdc++ behind it: g++ would add -lm, and the static one of Debian's cross packages names files that they have elsewhere.
+prepare_machine() { # gcc|g++; it sets `compiler` and `emulator`
+  local guide
+  need_kit
+  case $(uname -m) in
+    x86_64)
+      need "$1" "$1" libc6-dev
+      compiler=("$1")
+      emulator=()
+      ;;
+    aarch64)
+      need "x86_64-linux-gnu-$1" "$1-x86-64-linux-gnu" libc6-dev-amd64-cross
+      compiler=(x86_64-linux-gnu-gcc -static)
+      guide=$(rt doc)
+      emulator=("${guide%/*/*}/on/aarch64/toolchain/bin/qemu-x86_64")
+      [ -x "${emulator[0]}" ] || fail "the kit has no emulator at ${emulator[0]}"
+      ;;
+    *) fail "no way known to run x86-64 programs on $(uname -m)" ;;
+  esac
 }

@@ -21,7 +21,7 @@ static void refuse_classes(struct run *run, int64_t root, int64_t bass)
     static const struct pool *const pools[] = {&good, &bad_class, &bad_interval, &long_good, &none};
     for (unsigned at = 0; at < LENGTH(pools); at++) {
         struct chord chord = chord_of(root, bass, NO_LEAD, pools[at]);
-        expect_no_voicing(run, &chord, BAD_CLASS);
+        expect_no_voicing(run, &chord, HEMOTUSAP_BAD_CLASS);
     }
 }
 
@@ -57,7 +57,7 @@ static void many_pairs(struct run *run, size_t classes, size_t intervals)
     for (unsigned at = 0; at < LENGTH(fills); at++) {
         memset(bytes, fills[at], sizeof bytes);
         const struct chord chord = {{0, NO_BASS, NO_LEAD}, {{bytes, classes}, {bytes, intervals}}};
-        expect_no_voicing(run, &chord, TOO_MANY_PAIRS);
+        expect_no_voicing(run, &chord, HEMOTUSAP_TOO_MANY_PAIRS);
     }
 }
 
@@ -79,7 +79,7 @@ static void bad_bytes(struct run *run, const struct pool *pool, uint8_t *place, 
     uint8_t good_byte = *place;
     for (unsigned byte = least; byte < BYTES; byte++) {
         *place = (uint8_t)byte;
-        expect_no_voicing_in(run, &chord, BAD_PAIR, rooms[byte % LENGTH(rooms)]);
+        expect_no_voicing_in(run, &chord, HEMOTUSAP_BAD_PAIR, rooms[byte % LENGTH(rooms)]);
     }
     *place = good_byte;
 }

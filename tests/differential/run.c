@@ -69,7 +69,8 @@ void expect_answer(struct run *run, const struct call *call, int64_t got, int64_
     expect_number(run, call, got, want);
 }
 
-void expect_refusal(struct run *run, const struct call *call, int64_t got, enum refusal want)
+void expect_refusal(struct run *run, const struct call *call, int64_t got,
+                    enum hemotusap_refusal want)
 {
     run->refusals++;
     expect_number(run, call, got, -(int64_t)want);

@@ -3,7 +3,7 @@
 #define RUN_H
 
 #include "call.h"
-#include "refusal.h"
+#include "hemotusap.h"
 
 enum mode { REQUESTING, CHECKING };
 
@@ -26,7 +26,8 @@ _Noreturn void fail(const char *format, ...);
 const char *oracle_answer(struct run *run, const struct call *call);
 
 void expect_answer(struct run *run, const struct call *call, int64_t got, int64_t want);
-void expect_refusal(struct run *run, const struct call *call, int64_t got, enum refusal want);
+void expect_refusal(struct run *run, const struct call *call, int64_t got,
+                    enum hemotusap_refusal want);
 
 /* Tells of a call that went wrong; the tenth ends the run. */
 void mismatch(struct run *run, const struct call *call, const char *format, ...);

@@ -38,7 +38,7 @@ static void tried_move(struct run *run, struct note from, uint32_t semitones, ui
         return;
     expect_refusal(run, CALL("get_note", from.letter, from.count, semitones, degree),
                    hemotusap_get_note(from.letter, from.count, semitones, degree),
-                   is_note(from) ? BAD_MOVE : BAD_NOTE);
+                   is_note(from) ? HEMOTUSAP_BAD_MOVE : HEMOTUSAP_BAD_NOTE);
 }
 
 static void tried_degrees(struct run *run, struct note from, uint32_t semitones)

@@ -6,7 +6,7 @@
 #include "suite.h"
 #include "written.h"
 
-enum { LONGEST = 7 }; /* a letter and six accidentals */
+enum { LONGEST = HEMOTUSAP_NOTE_TEXT_ROOM }; /* a letter and six accidentals */
 
 static int64_t write_note(const struct call *call, uint8_t *out)
 {
@@ -34,7 +34,7 @@ static void every_text(struct run *run)
         if (is_note(note))
             expect_written(run, call, write_note, text, text_of(note, text));
         else
-            expect_unwritten(run, call, write_note, BAD_NOTE, LONGEST + 1);
+            expect_unwritten(run, call, write_note, HEMOTUSAP_BAD_NOTE, LONGEST + 1);
     }
 }
 

@@ -18,7 +18,8 @@ static void every_set(struct run *run)
 
 static void refused(struct run *run, int64_t set)
 {
-    expect_refusal(run, CALL("quality", set), hemotusap_quality((uint32_t)set), BAD_SET);
+    expect_refusal(run, CALL("quality", set), hemotusap_quality((uint32_t)set),
+                   HEMOTUSAP_NOT_A_SET);
 }
 
 static void sets_above(struct run *run)

@@ -31,7 +31,7 @@ static void every_rooted_set(struct run *run)
 static void refused(struct run *run, int64_t set)
 {
     for (unsigned at = 0; at < LENGTH(rooms); at++)
-        expect_unwritten_in(run, CALL("suffix", set), write_suffix, BAD_SET, rooms[at]);
+        expect_unwritten_in(run, CALL("suffix", set), write_suffix, HEMOTUSAP_NOT_A_SET, rooms[at]);
 }
 
 static void sets_refused(struct run *run)

@@ -10,7 +10,7 @@
 #include "written.h"
 
 /* Of the pairs one in EVERY_ROOM is tried in every room, and those of all classes. */
-enum { ROOTS = 12, SETS = 4096, EVERY_ROOM = 61, LONGEST = 34 };
+enum { ROOTS = 12, SETS = 4096, EVERY_ROOM = 61, LONGEST = HEMOTUSAP_TONES_ROOM };
 
 static int64_t write_tones(const struct call *call, uint8_t *out)
 {
@@ -49,7 +49,7 @@ static void every_pair(struct run *run)
             one_pair(run, root, set);
 }
 
-static void refused(struct run *run, int64_t root, int64_t set, enum refusal want)
+static void refused(struct run *run, int64_t root, int64_t set, enum hemotusap_refusal want)
 {
     static const size_t rooms[] = {0, 1, LONGEST};
     for (unsigned at = 0; at < LENGTH(rooms); at++)
@@ -61,14 +61,14 @@ static void refuse_set(struct run *run, int64_t set)
 {
     static const int64_t roots[] = {0, ROOTS - 1, ROOTS, 255, UINT32_MAX};
     for (unsigned at = 0; at < LENGTH(roots); at++)
-        refused(run, roots[at], set, BAD_SET);
+        refused(run, roots[at], set, HEMOTUSAP_NOT_A_SET);
 }
 
 static void refuse_root(struct run *run, int64_t root)
 {
     static const int64_t sets[] = {1, 145, SETS - 1};
     for (unsigned at = 0; at < LENGTH(sets); at++)
-        refused(run, root, sets[at], BAD_CLASS);
+        refused(run, root, sets[at], HEMOTUSAP_BAD_CLASS);
 }
 
 static void stated_text(struct run *run, int64_t root, int64_t set, const char *text)

@@ -42,7 +42,7 @@ static void every_move(struct run *run)
 static void tried_move(struct run *run, struct note from, struct note note, struct note to)
 {
     if (!is_note(from) || !is_note(note) || !is_note(to))
-        expect_refusal(run, TRANSPOSE(from, note, to), moved(from, note, to), BAD_NOTE);
+        expect_refusal(run, TRANSPOSE(from, note, to), moved(from, note, to), HEMOTUSAP_BAD_NOTE);
 }
 
 static void moves_outside(struct run *run)

@@ -93,14 +93,14 @@ void expect_voicing(struct run *run, const struct chord *chord, struct range key
         with_bad_surplus(run, chord, keys, &state);
 }
 
-void expect_no_voicing_in(struct run *run, const struct chord *chord, enum refusal want,
+void expect_no_voicing_in(struct run *run, const struct chord *chord, enum hemotusap_refusal want,
                           size_t room)
 {
     const struct call call = voicing_of(chord);
     expect_unwritten_in(run, &call, write_voicing, want, room);
 }
 
-void expect_no_voicing(struct run *run, const struct chord *chord, enum refusal want)
+void expect_no_voicing(struct run *run, const struct chord *chord, enum hemotusap_refusal want)
 {
     static const size_t rooms[] = {0, 1, MOST_KEYS};
     for (unsigned at = 0; at < LENGTH(rooms); at++)

@@ -5,7 +5,11 @@
 #include "pools.h"
 #include "run.h"
 
-enum { NO_BASS = 255, NO_LEAD = 256, MOST_KEYS = 64 /* more than a voicing has */ };
+enum {
+    NO_BASS = HEMOTUSAP_NO_BASS,
+    NO_LEAD = HEMOTUSAP_NO_LEAD,
+    MOST_KEYS = 64 /* more than a voicing has */
+};
 
 struct chord {
     int64_t numbers[3];     /* root, bass, lead */
@@ -25,10 +29,10 @@ void expect_voicing(struct run *run, const struct chord *chord, struct range key
 void expect_voicing_everywhere(struct run *run, const struct chord *chord, struct range keys);
 
 /* Refused, in this room. */
-void expect_no_voicing_in(struct run *run, const struct chord *chord, enum refusal want,
+void expect_no_voicing_in(struct run *run, const struct chord *chord, enum hemotusap_refusal want,
                           size_t room);
 
 /* Refused, in no room, in too little and in enough. */
-void expect_no_voicing(struct run *run, const struct chord *chord, enum refusal want);
+void expect_no_voicing(struct run *run, const struct chord *chord, enum hemotusap_refusal want);
 
 #endif

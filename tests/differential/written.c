@@ -4,7 +4,7 @@
 
 /* What is to come of one call: a refusal, or else this answer, with this text written. */
 struct outcome {
-    enum refusal refusal; /* 0: none */
+    enum hemotusap_refusal refusal; /* 0: none */
     int64_t answer;
     const uint8_t *text;
     size_t length;
@@ -67,7 +67,8 @@ void expect_written_in(struct run *run, const struct call *call, callee *callee,
                        const uint8_t *want, size_t length, size_t room)
 {
     const struct call roomy = with_room(call, room);
-    const struct outcome outcome = {room < length ? NO_ROOM : 0, (int64_t)length, want, length};
+    const struct outcome outcome = {room < length ? HEMOTUSAP_NO_ROOM : 0, (int64_t)length, want,
+                                    length};
     attempt_everywhere(run, &roomy, callee, &outcome);
 }
 
@@ -79,14 +80,14 @@ void expect_written(struct run *run, const struct call *call, callee *callee,
 }
 
 void expect_unwritten_in(struct run *run, const struct call *call, callee *callee,
-                         enum refusal want, size_t room)
+                         enum hemotusap_refusal want, size_t room)
 {
     const struct call roomy = with_room(call, room);
     attempt_everywhere(run, &roomy, callee, &(const struct outcome){.refusal = want});
 }
 
 void expect_unwritten(struct run *run, const struct call *call, callee *callee,
-                      enum refusal want, size_t most)
+                      enum hemotusap_refusal want, size_t most)
 {
     for (size_t room = 0; room <= most; room++)
         expect_unwritten_in(run, call, callee, want, room);

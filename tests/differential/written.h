@@ -14,11 +14,11 @@ void expect_written(struct run *run, const struct call *call, callee *callee,
 
 /* This room: refused. */
 void expect_unwritten_in(struct run *run, const struct call *call, callee *callee,
-                         enum refusal want, size_t room);
+                         enum hemotusap_refusal want, size_t room);
 
 /* Rooms 0 to `most`: refused in each. */
 void expect_unwritten(struct run *run, const struct call *call, callee *callee,
-                      enum refusal want, size_t most);
+                      enum hemotusap_refusal want, size_t most);
 
 /* A call that reads its inputs and has no output. */
 void expect_read(struct run *run, const struct call *call, callee *callee, int64_t want);

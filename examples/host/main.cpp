@@ -1,0 +1,83 @@
+// A host: each call of the library through its C++ wrapper, in memory of the host's own.
+#include <hemotusap.hpp>
+
+#include <array>
+#include <cstdint>
+#include <cstdio>
+#include <optional>
+#include <string_view>
+#include <vector>
+
+namespace {
+
+using hemotusap::interval;
+using hemotusap::letter;
+
+void print(std::string_view text) {
+    std::printf(" %.*s", static_cast<int>(text.size()), text.data());
+}
+
+void print(hemotusap::note note) {
+    char text[hemotusap::note_text_room];
+    print(hemotusap::note_text(note, text).value_or("no note"));
+}
+
+// Sets or keys.
+template <class Numbers>
+void print(const Numbers &numbers) {
+    for (const unsigned number : numbers)
+        std::printf(" %u", number);
+}
+
+// An answer or a refusal: the value, or why there is none.
+template <class T>
+void show(const char *what, hemotusap::result<T> answer) {
+    std::printf("%s%s", what, answer ? ":" : ": refused,");
+    if (answer)
+        print(*answer);
+    else
+        print(hemotusap::name(answer.error()));
+    std::printf("\n");
+}
+
+void symbols() {
+    const std::array<std::uint8_t, 3> keys{60, 64, 67};
+    char lines[hemotusap::candidates_room];
+    std::printf("60 64 67 may be %zu chords:\n", hemotusap::candidate_count(keys));
+    if (const auto chords = hemotusap::candidates(keys, lines))
+        std::printf("%.*s", static_cast<int>(chords->size()), chords->data());
+
+    char name[hemotusap::suffix_room];
+    std::uint8_t sets[hemotusap::listing_room];
+    show("suffix of 1169", hemotusap::suffix(1169, name));      // 7
+    show("suffix of 4096", hemotusap::suffix(4096, name));      // refused, not a set
+    show("sets of 7(b13)", hemotusap::listing("7(b13)", sets)); // 1297 1425 3345 3473
+}
+
+void voicings() {
+    const std::vector<std::uint8_t> classes{0, 4, 7, 11};
+    const interval intervals[] = {interval::unison, interval::major_third, interval::perfect_fifth,
+                                  interval::major_seventh};
+    std::uint8_t keys[hemotusap::voicing_room];
+    const auto none = std::nullopt;
+    show("CMa7", hemotusap::voicing(0, none, classes, intervals, none, keys)); // 36 52 59 79
+    show("CMa7/E, lead 71", hemotusap::voicing(0, 4, classes, intervals, 71, keys));
+}
+
+void notes() {
+    const hemotusap::note c{letter::C, 0}, e_flat{letter::E, -1}, g{letter::G, 0};
+    char text[hemotusap::tones_room];
+    show("tones of 73 on C", hemotusap::tones(0, 73, text));
+    show("Eb moved as C to G", hemotusap::transpose(c, e_flat, g));
+    show("a major third above Eb", hemotusap::get_note(e_flat, 4, 3));
+    if (const auto quality = hemotusap::quality(145))
+        std::printf("145 is %s\n", *quality == hemotusap::chord_quality::maj ? "major" : "another");
+}
+
+} // namespace
+
+int main() {
+    symbols();
+    voicings();
+    notes();
+}

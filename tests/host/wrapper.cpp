@@ -1,0 +1,93 @@
+// What hemotusap.hpp promises beyond the library: what a range may be made of, what a result is,
+// and how refusals and absent numbers pass. Ends with 0 if all of it holds.
+#include <hemotusap.hpp>
+
+#include <array>
+#include <cstdio>
+#include <string>
+#include <vector>
+
+namespace {
+
+using namespace hemotusap;
+
+using bytes = range<const std::uint8_t>;
+using room = range<std::uint8_t>;
+
+template <class T, class Owner>
+constexpr bool lends = std::is_convertible_v<Owner, range<T>>;
+
+static_assert(lends<const std::uint8_t, const std::uint8_t (&)[3]>);
+static_assert(lends<const std::uint8_t, std::array<std::uint8_t, 3>>);
+static_assert(lends<const std::uint8_t, const std::vector<std::uint8_t> &>);
+static_assert(lends<const char, std::string_view>);
+static_assert(lends<const std::uint8_t, room>);
+static_assert(lends<std::uint8_t, std::vector<std::uint8_t> &>);
+static_assert(lends<char, std::string &>);
+static_assert(!lends<std::uint8_t, const std::vector<std::uint8_t> &>, "what is const stays so");
+static_assert(!lends<std::uint8_t, std::vector<std::uint8_t>>, "a temporary is not written to");
+static_assert(!lends<std::uint8_t, bytes>);
+static_assert(!lends<const std::uint8_t, const int (&)[3]>);
+static_assert(!lends<const interval, bytes>, "a class is no interval");
+
+static_assert(std::is_trivially_copyable_v<result<room>>);
+static_assert(result<note>(note{letter::E, -1})->accidental == -1);
+static_assert(result<int>(refusal::no_room).error() == refusal::no_room);
+static_assert(!result<int>(refusal::no_room) && *result<int>(refusal::no_room) == 0);
+static_assert(result<int>(refusal::no_room).value_or(5) == 5 && result<int>(4).value_or(5) == 4);
+
+int failures = 0;
+
+void expect(bool holds, const char *what) {
+    if (holds)
+        return;
+    std::printf("not so: %s\n", what);
+    failures++;
+}
+
+#define EXPECT(condition) expect((condition), #condition)
+
+// Each refusal by a call that has it.
+void refusals() {
+    const std::array<std::uint8_t, 17> zeros{};
+    const std::array<interval, 17> unisons{};
+    const std::uint8_t bad[] = {12};
+    std::uint8_t keys[voicing_room];
+    char text[suffix_room];
+    EXPECT(quality(4096).error() == refusal::not_a_set);
+    EXPECT(suffix(2, text).error() == refusal::not_a_set);
+    EXPECT(tones(12, 1, text).error() == refusal::bad_class);
+    EXPECT(voicing(0, {}, zeros, unisons, {}, keys).error() == refusal::too_many_pairs);
+    EXPECT(voicing(0, {}, bad, unisons, {}, keys).error() == refusal::bad_pair);
+    EXPECT(note_text({letter{7}, 0}, text).error() == refusal::bad_note);
+    EXPECT(transpose({}, {}, {letter::C, 7}).error() == refusal::bad_note);
+    EXPECT(get_note({}, 0, 15).error() == refusal::bad_move);
+    EXPECT(listing("7(b13)", room(keys, 7)).error() == refusal::no_room);
+    EXPECT(candidates(zeros, {}).error() == refusal::no_room);
+    EXPECT(name(refusal::no_room) == "no room" && name(refusal{}) == "none");
+}
+
+// Of what is absent or out of place, and of nothing at all.
+void edges() {
+    const std::uint8_t classes[] = {0, 4, 7};
+    const interval intervals[] = {interval::unison, interval::major_third, interval::perfect_fifth};
+    std::uint8_t keys[voicing_room], sets[listing_room];
+    EXPECT(voicing(0, 255, classes, intervals, {}, keys).error() == refusal::bad_class);
+    EXPECT(voicing(0, 256, classes, intervals, {}, keys).error() == refusal::bad_class);
+    EXPECT(voicing(0, 4, classes, intervals, {}, keys)->size() == 5);
+    EXPECT(*voicing(0, {}, classes, intervals, 256, keys)->begin() == 36);
+    EXPECT(voicing(0, {}, {}, {}, 60, keys)->size() == 2);
+    EXPECT(candidates({}, {}) && candidates({}, {})->empty() && candidate_count({}) == 0);
+    EXPECT(listing("no suffix", {})->empty());
+    EXPECT(listing("+", sets)->size() == 2 && (*listing("+", sets))[1] == 401);
+    EXPECT(*quality(128) == chord_quality::bass && *quality(2577) == chord_quality::maj6);
+    EXPECT(*transpose({letter::C, 0}, {letter::E, -1}, {letter::G, 0}) == (note{letter::B, -1}));
+}
+
+} // namespace
+
+int main() {
+    refusals();
+    edges();
+    return failures == 0 ? 0 : 1;
+}
