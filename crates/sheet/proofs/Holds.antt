@@ -1,0 +1,124 @@
+-- The proof sheet holds: each of its rows is computed. A listing runs the suffix of every rooted set.
+--     sheet-holds     all twelve rows
+use mathlib.Core.Path.{_≡_, refl, ap, _∙_}
+use mathlib.Core.Bool.{Bool, true, false, cond, _&&_}
+use mathlib.Core.List.{List, [], _∷_, _++_}
+use Prim.Native.Nat.{ℕ, zero, suc, _+_, _-_, _*_, _%_, _<_}
+use native.Mathlib.Omega.{arith}
+use lib.Dec.{T}
+use lib.ListN.{getD}
+use Rattle.answer.specs.Words.{bytes, same}
+use Rattle.answer.specs.Replies.{text}
+use Rattle.answer.proofs.Tests.{left, right as right′, all, same→eq}
+use Rattle.chord.specs.Sets.{isSet, has, isRooted, hasAll, hasNone, classCount, countBelow, isIn}
+use Rattle.chord.specs.Intervals.{intervals, nth, numbered, setOf}
+use Rattle.chord.specs.Qualities.{qualityOf, qualityAnswer}
+use Rattle.inference.specs.Intervals.{among, keep, only, atOnce, third, fourth, sixth, fifth, intervalsIn, intervalsOf}
+use Rattle.inference.specs.Parts.{hasThird, withThird, suffixQuality, isSus, within, alterationsOf, sixthAs13, extensionsOf, lastAdd, omitThird, omitFifth}
+use Rattle.inference.specs.Stack as Stack
+use Rattle.inference.specs.Stack.{degreesOf, isDegree, reaches, isStacked, modifierOf, isOwn, isAdd, addsOf}
+use Rattle.inference.specs.Heading.{nine, heading, sus}
+use Rattle.inference.specs.Suffix.{worded, addParts, parts, listed, close, parenthesized, suffixOf, suffixReply}
+use Rattle.inference.proofs.Agree.{at-rooted, same-bool, same-bool→eq}
+use Rattle.listing.specs.Listing.{matching, setsOf, inBytes, listingOf}
+use Rattle.voicings.specs.Pool.{tonesOf, insert, sorted}
+use Rattle.voicings.specs.Choice.{keysFrom, keysOf, best, offersOf, offers, bestOf, without, chosen, others, placedIn, placed}
+use Rattle.voicings.specs.Lead.{barring, lastOf, unbarred, owns, isOwned, withoutLast, leadOf}
+use Rattle.voicings.specs.Guides.{holdsAny, sixths, sevenths, guides, tensions, guideKeys, tensionKeys}
+use Rattle.voicings.specs.Voicing.{aboveBass, voicingOf, arePairs, voicingReply}
+use Rattle.sheet.specs.Sheet.{gives, answerOf, Row, sheet, Holds, AllHold}
+
+-- the sets of the two listings of the sheet
+abbrev augmented : List ℕ
+augmented = 273 ∷ 401 ∷ []
+
+abbrev flatThirteenth : List ℕ
+flatThirteenth = 1297 ∷ 1425 ∷ 3345 ∷ 3473 ∷ []
+
+-- a suffix is a text exactly at the sets of a list; one test of all rooted sets, for both listings
+only-at : List ℕ → List ℕ → ℕ → List ℕ → Bool
+only-at t sets s suffix = same-bool (same t suffix) (isIn s sets)
+
+both-at : ℕ → List ℕ → Bool
+both-at s suffix = only-at (bytes "+") augmented s suffix && only-at (bytes "7(b13)") flatThirteenth s suffix
+
+right : ℕ → Bool
+right s = both-at s (suffixOf s)
+
+all-right : (s : ℕ) → s < 4096 → s % 2 ≡ 1 → T (right s)
+unfolding all isIn only-at both-at right bytes same has hasAll hasNone classCount countBelow qualityOf intervals among keep only atOnce third fourth sixth fifth setOf intervalsIn intervalsOf hasThird withThird suffixQuality isSus within alterationsOf sixthAs13 extensionsOf degreesOf isDegree reaches isStacked Stack.lastOf modifierOf isOwn isAdd addsOf lastAdd omitThird omitFifth nine worded addParts parts listed close parenthesized heading sus suffixOf
+all-right = at-rooted right tt
+
+-- of the last n rooted sets, those of a list
+kept : List ℕ → ℕ → List ℕ
+kept sets zero = []
+kept sets (suc n) = cond (isIn (4095 - 2 * n) sets) ((4095 - 2 * n) ∷ kept sets n) (kept sets n)
+
+-- where a suffix is a text exactly at the sets of a list, these are what a search for the text finds
+abbrev OnlyAt : List ℕ → List ℕ → Type 0
+OnlyAt t sets = (s : ℕ) → s < 4096 → s % 2 ≡ 1 → same t (suffixOf s) ≡ isIn s sets
+
+searched : (t sets : List ℕ) → OnlyAt t sets → (n s : ℕ) → s % 2 ≡ 1 → s + 2 * n ≡ 4097 → matching t n s ≡ kept sets n
+unfolding matching kept
+searched t sets told zero s odd h = refl
+searched t sets told (suc n) s odd h =
+    let e : s ≡ 4095 - 2 * n = omega arith in
+    ap (λ (b : Bool). cond b (s ∷ matching t n (s + 2)) (matching t n (s + 2))) (told s (omega arith) odd)
+    ∙ ap (λ (l : List ℕ). cond (isIn s sets) (s ∷ l) l) (searched t sets told n (s + 2) (omega arith) (omega arith))
+    ∙ ap (λ (k : ℕ). cond (isIn k sets) (k ∷ kept sets n) (kept sets n)) e
+
+listed-sets : (t sets : List ℕ) → OnlyAt t sets → T (same (kept sets 2048) sets) → listingOf t ≡ inBytes sets
+unfolding setsOf listingOf
+listed-sets t sets told all-kept = ap inBytes (searched t sets told 2048 1 refl refl ∙ same→eq (kept sets 2048) sets all-kept)
+
+augmented-kept : T (same (kept augmented 2048) augmented)
+unfolding same isIn kept
+augmented-kept = tt
+
+thirteenth-kept : T (same (kept flatThirteenth 2048) flatThirteenth)
+unfolding same isIn kept
+thirteenth-kept = tt
+
+plus-only : OnlyAt (bytes "+") augmented
+unfolding right both-at only-at
+plus-only s h odd = same-bool→eq (same (bytes "+") (suffixOf s)) (isIn s augmented) (left (only-at (bytes "+") augmented s (suffixOf s)) _ (all-right s h odd))
+
+seven-only : OnlyAt (bytes "7(b13)") flatThirteenth
+unfolding right both-at only-at
+seven-only s h odd =
+    same-bool→eq (same (bytes "7(b13)") (suffixOf s)) (isIn s flatThirteenth) (right′ (only-at (bytes "+") augmented s (suffixOf s)) _ (all-right s h odd))
+
+-- the row at a place of the sheet
+abbrev at : ℕ → Row
+at n = getD sheet n record { given = []; found = [] }
+
+suffixes : Holds (at 0) × Holds (at 1) × Holds (at 2) × Holds (at 3) × Holds (at 4) × Holds (at 5)
+unfolding isSet isRooted suffixReply answerOf bytes same has hasAll hasNone classCount countBelow qualityOf intervals among keep only atOnce third fourth sixth fifth setOf intervalsIn intervalsOf hasThird withThird suffixQuality isSus within alterationsOf sixthAs13 extensionsOf degreesOf isDegree reaches isStacked Stack.lastOf modifierOf isOwn isAdd addsOf lastAdd omitThird omitFifth nine worded addParts parts listed close parenthesized heading sus suffixOf
+suffixes = (refl, refl, refl, refl, refl, refl)
+
+qualities : Holds (at 6)
+unfolding isSet has hasAll hasNone classCount countBelow qualityOf qualityAnswer answerOf
+qualities = refl
+
+listings : Holds (at 7) × Holds (at 8)
+unfolding answerOf
+listings = (
+  ap (λ (t : List ℕ). gives (text t) ∷ []) (listed-sets (bytes "+") augmented plus-only augmented-kept),
+  ap (λ (t : List ℕ). gives (text t) ∷ []) (listed-sets (bytes "7(b13)") flatThirteenth seven-only thirteenth-kept),
+)
+
+major-seventh : Holds (at 9)
+unfolding has isIn intervals nth numbered setOf tonesOf insert sorted keysFrom keysOf best offersOf offers bestOf without chosen others placedIn placed barring lastOf unbarred owns isOwned withoutLast leadOf holdsAny sixths sevenths guides tensions guideKeys tensionKeys aboveBass voicingOf arePairs voicingReply answerOf
+major-seventh = refl
+
+diminished : Holds (at 10)
+unfolding has isIn intervals nth numbered setOf tonesOf insert sorted keysFrom keysOf best offersOf offers bestOf without chosen others placedIn placed barring lastOf unbarred owns isOwned withoutLast leadOf holdsAny sixths sevenths guides tensions guideKeys tensionKeys aboveBass voicingOf arePairs voicingReply answerOf
+diminished = refl
+
+flat-ninth : Holds (at 11)
+unfolding has isIn intervals nth numbered setOf tonesOf insert sorted keysFrom keysOf best offersOf offers bestOf without chosen others placedIn placed barring lastOf unbarred owns isOwned withoutLast leadOf holdsAny sixths sevenths guides tensions guideKeys tensionKeys aboveBass voicingOf arePairs voicingReply answerOf
+flat-ninth = refl
+
+pub sheet-holds : AllHold sheet
+sheet-holds =
+    (suffixes .0, (suffixes .1, (suffixes .2, (suffixes .3, (suffixes .4, (suffixes .5, (qualities, (listings .0, (listings .1, (major-seventh, (diminished, (flat-ninth, tt))))))))))))
