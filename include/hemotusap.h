@@ -8,7 +8,8 @@
  * Sets: bit k is pitch class k, counted in semitones from the root; 0..4095.
  * Accidentals: the count of sharps, -6..6; flats are negative, 0 is none.
  *
- * No call allocates, keeps state or calls back: any thread may make any call at any time.
+ * No call allocates, keeps state or calls back: any thread may make any call at any time. Of the
+ * stack a listing takes 4.4 KiB, candidates 1.3 KiB and any other call at most half of one.
  */
 #ifndef HEMOTUSAP_H
 #define HEMOTUSAP_H

@@ -9,11 +9,14 @@
 enum place {
     BETWEEN_CANARIES,     /* a byte altered on either side shows */
     BEFORE_FAULTING_PAGE, /* a byte touched behind the range faults */
+    AFTER_FAULTING_PAGE,  /* a byte touched in front of it faults */
     NOWHERE               /* NULL, for length 0 alone */
 };
 
 struct lent {
-    uint8_t *end;    /* of the memory that may be touched: a page that faults begins here */
+    uint8_t *start;  /* of the memory that may be touched: a page that faults ends here */
+    uint8_t *end;    /* and another begins here */
+    uint8_t *range;  /* the one last lent */
     uint8_t *watched;
     size_t watched_length;
     uint8_t *before; /* the watched bytes as they were when lent */

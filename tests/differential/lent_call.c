@@ -35,6 +35,11 @@ static void expect_range(struct run *run, const struct call *call, const char *w
                  which, first.found, first.wanted);
 }
 
+const uint8_t *lent_output(void)
+{
+    return output.range;
+}
+
 void expect_output(struct run *run, const struct call *call, const uint8_t *want, size_t length)
 {
     expect_range(run, call, "output", &output, want, length);

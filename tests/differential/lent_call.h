@@ -12,6 +12,9 @@ enum { MOST_LENT = 1 << 17 }; /* bytes of one range */
 bool call_lent(struct run *run, const struct call *call, callee *callee, enum place place,
                const uint8_t *old, int64_t *got);
 
+/* The output last lent, where it stands. */
+const uint8_t *lent_output(void);
+
 /* Tells when the output last lent is not `want`, followed by what it held. */
 void expect_output(struct run *run, const struct call *call, const uint8_t *want, size_t length);
 

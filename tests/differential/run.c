@@ -1,7 +1,8 @@
-#define _POSIX_C_SOURCE 200809L /* getline */
+#define _GNU_SOURCE /* getline, program_invocation_short_name */
 
 #include "run.h"
 
+#include <errno.h>
 #include <inttypes.h>
 #include <stdarg.h>
 #include <stdlib.h>
@@ -13,7 +14,7 @@ void fail(const char *format, ...)
 {
     va_list words;
     va_start(words, format);
-    fputs("differential: ", stderr);
+    fprintf(stderr, "%s: ", program_invocation_short_name);
     vfprintf(stderr, format, words);
     fputc('\n', stderr);
     va_end(words);

@@ -1,0 +1,98 @@
+#include "made.h"
+
+#include "draw.h"
+#include "hemotusap.h"
+#include "length.h"
+
+struct source {
+    const uint8_t *data;
+    size_t size;
+    size_t at;
+};
+
+static uint32_t take(struct source *from, unsigned bytes)
+{
+    uint32_t taken = 0;
+    for (; bytes > 0; bytes--)
+        taken = taken << 8 | (from->size == 0 ? 0 : from->data[from->at++ % from->size]);
+    return taken;
+}
+
+/* Of 16 numbers 13 are good, two stand at an edge and one is any of 32 bits. */
+static int64_t take_number(struct source *from, struct limits good)
+{
+    const int64_t edges[] = {good.low - 1, good.high + 1, 255, 256, INT32_MAX, INT32_MIN, -1, 16};
+    uint32_t kind = take(from, 1) % 16;
+    if (kind == 15)
+        return (int32_t)take(from, 4);
+    if (kind >= 13)
+        return edges[take(from, 1) % LENGTH(edges)];
+    return good.low + take(from, 2) % (good.high - good.low + 1);
+}
+
+static int64_t take_room(struct source *from, int64_t most)
+{
+    uint32_t kind = take(from, 1) % 8;
+    if (kind < 2)
+        return most;
+    return kind < 7 ? take(from, 1) % 48 : take(from, 2) % (MOST_ROOM + 1);
+}
+
+/* Any bytes are seldom a suffix: this is one, and every fourth has a byte damaged. */
+static size_t take_suffix(struct source *from, uint8_t *bytes)
+{
+    int64_t length = hemotusap_suffix(take(from, 2) % 4096 | 1, bytes, MOST_INPUT);
+    if (length <= 0)
+        return 0;
+    if (take(from, 1) % 4 == 0)
+        bytes[take(from, 1) % length] = (uint8_t)take(from, 1);
+    return (size_t)length;
+}
+
+static size_t take_bytes(struct source *from, uint8_t highest, uint8_t *bytes)
+{
+    uint32_t kind = take(from, 1);
+    size_t length = kind % 8 == 0 ? take(from, 2) % (MOST_INPUT + 1) : kind / 8 % 18;
+    bool good = take(from, 1) % 16 != 0;
+    for (size_t at = 0; at < length; at++) {
+        uint32_t byte = take(from, 1);
+        bytes[at] = (uint8_t)(good ? byte % (highest + 1u) : byte);
+    }
+    return length;
+}
+
+static void take_inputs(struct source *from, struct made *made)
+{
+    const struct function *function = made->function;
+    for (size_t at = 0; at < function->input_count; at++) {
+        uint8_t *bytes = made->bytes[at];
+        bool suffix = function->answers.high == HEMOTUSAP_LISTING_ROOM && take(from, 1) % 2 == 0;
+        size_t length =
+            suffix ? take_suffix(from, bytes) : take_bytes(from, function->highest[at], bytes);
+        made->inputs[at] = (struct range){bytes, length};
+    }
+}
+
+void make_call(struct made *made, const uint8_t *data, size_t size)
+{
+    struct source from = {data, size, 0};
+    const struct function *function = &functions[take(&from, 1) % FUNCTIONS];
+    made->function = function;
+    made->nowhere = take(&from, 1) % 4 == 0;
+    for (size_t at = 0; at < function->number_count; at++)
+        made->numbers[at] = take_number(&from, function->numbers[at]);
+    int64_t room = function->writes ? take_room(&from, function->answers.high) : NO_OUTPUT;
+    take_inputs(&from, made);
+    made->call = (struct call){function->name, made->numbers, function->number_count,
+                               made->inputs, function->input_count, room};
+}
+
+void draw_call(struct made *made, unsigned function, uint64_t number)
+{
+    uint8_t data[MOST_BYTES];
+    uint64_t state = draws_of(function, number * MOST_BYTES);
+    for (size_t at = 0; at < sizeof data; at++)
+        data[at] = (uint8_t)(draw(&state) >> 56);
+    data[0] = (uint8_t)function;
+    make_call(made, data, sizeof data);
+}
