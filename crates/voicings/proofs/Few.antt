@@ -9,20 +9,20 @@ use lib.Dec.{eqb}
 use lib.ListN.{length}
 use Rattle.chord.specs.Sets.{has}
 use Rattle.voicings.specs.declared.pool.Tone.{Tone}
-use Rattle.voicings.specs.Choice.{bestOf, without, chosen, others, placedIn, placed}
+use Rattle.voicings.specs.declared.keys.Offer.{Offer}
+use Rattle.voicings.specs.Choice.{nothing, best, offers, without, chosen, others, placedIn, placed}
 use Rattle.voicings.specs.Guides.{guideKeys, tensionKeys}
 
 some-or-none : (b : Bool) (k n : ℕ) (l : List ℕ) → length l ≤ n → length (cond b [] (k ∷ l)) ≤ suc n
 some-or-none true k n l h = omega arith
 some-or-none false k n l h = omega arith
 
-few-placed : (n lowest limit wanted : ℕ) (tones : List Tone) → length (placedIn n lowest limit wanted tones) ≤ n
+few-placed : (n : ℕ) (left : List Offer) → length (placedIn n left) ≤ n
 unfolding placedIn
-few-placed zero lowest limit wanted tones = omega arith
-few-placed (suc n) lowest limit wanted tones =
-    some-or-none (eqb (bestOf lowest limit wanted tones .rank) 255) (bestOf lowest limit wanted tones .key) n
-    (placedIn n lowest limit wanted (others (bestOf lowest limit wanted tones .interval) tones))
-    (few-placed n lowest limit wanted (others (bestOf lowest limit wanted tones .interval) tones))
+few-placed zero left = omega arith
+few-placed (suc n) left =
+    some-or-none (eqb (best (nothing 0) left .rank) 255) (best (nothing 0) left .key) n (placedIn n (others (best (nothing 0) left .interval) left))
+    (few-placed n (others (best (nothing 0) left .interval) left))
 
 one-or-none : (b : Bool) (t : Tone) (n : ℕ) (l m : List Tone) → length l ≤ n → length m ≤ n → length (cond b (t ∷ l) m) ≤ suc n
 one-or-none true t n l m h k = omega arith
@@ -38,7 +38,7 @@ few-chosen whole once (t ∷ l) =
 few-of : (lowest limit wanted whole once : ℕ) (tones : List Tone) → length (placed lowest limit wanted (chosen whole once tones)) ≤ length tones
 unfolding placed
 few-of lowest limit wanted whole once tones =
-    le-trans (few-placed (length (chosen whole once tones)) lowest limit wanted (chosen whole once tones)) (few-chosen whole once tones)
+    le-trans (few-placed (length (chosen whole once tones)) (offers lowest limit wanted (chosen whole once tones))) (few-chosen whole once tones)
 
 pub few-guides : (lowest highest : ℕ) (pool : List Tone) → length (guideKeys lowest highest pool) ≤ length pool
 unfolding guideKeys

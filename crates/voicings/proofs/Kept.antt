@@ -14,8 +14,8 @@ use Rattle.chord.specs.Sets.{has}
 use Rattle.chord.proofs.Members.{taken-has}
 use Rattle.voicings.specs.declared.pool.Tone.{Tone}
 use Rattle.voicings.specs.declared.keys.Offer.{Offer}
-use Rattle.voicings.specs.Choice.{without, chosen}
-use Rattle.voicings.specs.Offered.{nearestOf, keep, otherOffers}
+use Rattle.voicings.specs.Choice.{without, chosen, others}
+use Rattle.voicings.specs.Offered.{nearestOf, keep}
 use Rattle.voicings.proofs.Digit.{within}
 use Rattle.voicings.proofs.Best.{near-interval}
 
@@ -31,13 +31,13 @@ without-has c s k = by-case (has s c) refl
     by-case true e = taken-has s c e k
     by-case false e = by-same e (eqb k c) refl
 
-pub keep-without : (i s : ℕ) (l : List Offer) → keep (without i s) l ≡ otherOffers i (keep s l)
-unfolding keep otherOffers
+pub keep-without : (i s : ℕ) (l : List Offer) → keep (without i s) l ≡ others i (keep s l)
+unfolding keep others
 keep-without i s [] = refl
 keep-without i s (o ∷ l) = ap (λ (b : Bool). cond b (o ∷ keep (without i s) l) (keep (without i s) l)) (without-has i s (o .interval)) ∙ by-case (has s (o .interval)) (eqb (o .interval) i) refl (keep-without i s l)
   where
-    by-case : (b other : Bool) → eqb (o .interval) i ≡ other → keep (without i s) l ≡ otherOffers i (keep s l)
-        → cond (b && not other) (o ∷ keep (without i s) l) (keep (without i s) l) ≡ otherOffers i (cond b (o ∷ keep s l) (keep s l))
+    by-case : (b other : Bool) → eqb (o .interval) i ≡ other → keep (without i s) l ≡ others i (keep s l)
+        → cond (b && not other) (o ∷ keep (without i s) l) (keep (without i s) l) ≡ others i (cond b (o ∷ keep s l) (keep s l))
     by-case false other e rest = rest
     by-case true true e rest = rest ∙ sym (rw e)
     by-case true false e rest = ap (λ (x : List Offer). o ∷ x) rest ∙ sym (rw e)

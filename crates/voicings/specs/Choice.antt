@@ -8,8 +8,9 @@
 --     best         the offer of least rank, "earliest on a tie", or what there was before
 --     without      a set of intervals without one
 --     chosen       the tones of a whole set of intervals, and the first tone of each interval of another
---     others       the tones of other intervals: "a placed interval leaves with all its duplicates"
---     placed       the keys of some tones, the best first; each turn takes at least a tone away
+--     others       the offers of other intervals: "a placed interval leaves with all its duplicates"
+--     placedIn     the keys of some offers in so many turns, the best first
+--     placed       those of some tones, in as many turns: each takes at least a tone away
 use mathlib.Core.Bool.{cond, _&&_, _||_}
 use mathlib.Core.List.{List, [], _∷_, _++_, map}
 use Prim.Native.Nat.{ℕ, zero, suc, _+_, _-_, _^_}
@@ -63,15 +64,15 @@ chosen whole once [] = []
 chosen whole once (t ∷ more) =
     cond (has whole (t .interval) || has once (t .interval)) (t ∷ chosen whole (without (t .interval) once) more) (chosen whole once more)
 
-unfoldable pub others : ℕ → List Tone → List Tone
+unfoldable pub others : ℕ → List Offer → List Offer
 others i [] = []
-others i (t ∷ more) = cond (eqb (t .interval) i) (others i more) (t ∷ others i more)
+others i (o ∷ more) = cond (eqb (o .interval) i) (others i more) (o ∷ others i more)
 
-unfoldable pub placedIn : ℕ → ℕ → ℕ → ℕ → List Tone → List ℕ
-placedIn zero lowest limit wanted tones = []
-placedIn (suc n) lowest limit wanted tones =
-    let b = bestOf lowest limit wanted tones in
-    cond (eqb (b .rank) 255) [] (b .key ∷ placedIn n lowest limit wanted (others (b .interval) tones))
+unfoldable pub placedIn : ℕ → List Offer → List ℕ
+placedIn zero left = []
+placedIn (suc n) left =
+    let b = best (nothing 0) left in
+    cond (eqb (b .rank) 255) [] (b .key ∷ placedIn n (others (b .interval) left))
 
 unfoldable pub placed : ℕ → ℕ → ℕ → List Tone → List ℕ
-placed lowest limit wanted tones = placedIn (length tones) lowest limit wanted tones
+placed lowest limit wanted tones = placedIn (length tones) (offers lowest limit wanted tones)

@@ -3,12 +3,10 @@
 --     nearestOf     a tone's best offer, or rank 255 where it has no key
 --     offersIn      the offers of a run as the code has it
 --     keep          the offers of the intervals of a set
---     otherOffers   the offers of other intervals
---     placedOffers  the keys of some offers, the best first, each with all of its interval
 use mathlib.Core.Bool.{cond}
 use mathlib.Core.List.{List, [], _∷_}
-use Prim.Native.Nat.{ℕ, zero, suc, _+_}
-use lib.Dec.{eqb, ltb}
+use Prim.Native.Nat.{ℕ, _+_}
+use lib.Dec.{ltb}
 use lib.ListN.{take}
 use Rattle.chord.specs.Sets.{has}
 use Rattle.voicings.specs.declared.pool.Tone.{Tone}
@@ -29,13 +27,3 @@ offersIn run = take (run .count) (run .list)
 unfoldable pub keep : ℕ → List Offer → List Offer
 keep set [] = []
 keep set (o ∷ more) = cond (has set (o .interval)) (o ∷ keep set more) (keep set more)
-
-unfoldable pub otherOffers : ℕ → List Offer → List Offer
-otherOffers i [] = []
-otherOffers i (o ∷ more) = cond (eqb (o .interval) i) (otherOffers i more) (o ∷ otherOffers i more)
-
-unfoldable pub placedOffers : ℕ → List Offer → List ℕ
-placedOffers zero offers = []
-placedOffers (suc n) offers =
-    let b = best (nothing 0) offers in
-    cond (eqb (b .rank) 255) [] (b .key ∷ placedOffers n (otherOffers (b .interval) offers))

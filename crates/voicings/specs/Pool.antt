@@ -6,12 +6,11 @@
 --     tonesIn      the tones of a pool as the code has it
 --     insert       a tone goes before the first whose base is not less than its own
 --     sorted       tones in order of base, equal bases in the list's order
---     siftAt       the tone at a place goes on into its place among the m tones behind it
 use mathlib.Core.Bool.{cond}
-use mathlib.Core.List.{List, [], _∷_, _++_}
-use Prim.Native.Nat.{ℕ, zero, suc}
+use mathlib.Core.List.{List, [], _∷_}
+use Prim.Native.Nat.{ℕ}
 use lib.Dec.{ltb}
-use lib.ListN.{take, drop}
+use lib.ListN.{take}
 use Rattle.chord.specs.Intervals.{numbered, classOf}
 use Rattle.chord.specs.declared.interval.Numbered.{Numbered}
 use Rattle.chord.specs.declared.interval.Numbered.the-variants.{Is, Nothing}
@@ -43,8 +42,3 @@ insert t (x ∷ more) = cond (ltb (x .base) (t .base)) (x ∷ insert t more) (t 
 unfoldable pub sorted : List Tone → List Tone
 sorted [] = []
 sorted (t ∷ more) = insert t (sorted more)
-
-unfoldable pub siftAt : ℕ → ℕ → List Tone → List Tone
-siftAt n m [] = []
-siftAt zero m (t ∷ more) = insert t (take m more) ++ drop m more
-siftAt (suc n) m (t ∷ more) = t ∷ siftAt n m more
