@@ -47,6 +47,16 @@ need_rust() {
     fail "the carried Rust is of edition 2024, which needs rustc 1.85 or later; here is $version"
 }
 
+# A program's stored test is what the Rust answers.
+check_stored() { # CRATE
+  local made=target/$1 stored=crates/$1
+  tests/oracle/build
+  mkdir -p "$made"
+  "tests/$1/make" target/oracle/oracle "$made"
+  cmp "$made/stdin" "$stored/stdin" && cmp "$made/stdout" "$stored/stdout" ||
+    fail "the stored test of $1 is not what tests/$1/make gives"
+}
+
 build_archive() {
   rt staticlib hemotusap
 }
