@@ -2,6 +2,7 @@
 //! Rust's own types are made before; the library writes into one buffer, which is not cleared between calls.
 
 use std::borrow::Cow;
+use std::ops::RangeInclusive;
 
 use crate::chord::interval::{IntervalSet, THIRDS_SET};
 use crate::chord::quality::{ChordQuality, Pc, PcSet};
@@ -56,6 +57,13 @@ pub fn rooted() -> Vec<Set> {
     (1..4096).step_by(2).map(set).collect()
 }
 
+/// The rooted sets of so many classes.
+pub fn rooted_of(classes: RangeInclusive<usize>) -> Vec<Set> {
+    let mut sets = rooted();
+    sets.retain(|set| classes.contains(&set.classes.len()));
+    sets
+}
+
 /// What `descriptors_from_midi_codes` does for one root, its name aside.
 pub fn of_one_root(set: &Set) -> String {
     let mut classes = set.classes;
@@ -73,22 +81,21 @@ fn of_first_candidate(set: &Set) -> String {
     descriptor
 }
 
-pub fn suffix() -> Times {
-    suffix_beside(of_one_root)
+pub fn suffix(classes: RangeInclusive<usize>) -> Times {
+    suffix_beside(of_one_root, &rooted_of(classes))
 }
 
 pub fn suffix_beside_public_call() -> Times {
-    suffix_beside(of_first_candidate)
+    suffix_beside(of_first_candidate, &rooted())
 }
 
-fn suffix_beside(rust: impl Fn(&Set) -> String) -> Times {
-    let rooted = rooted();
+fn suffix_beside(rust: impl Fn(&Set) -> String, sets: &[Set]) -> Times {
     let mut out = [0; ROOM];
-    for set in &rooted {
+    for set in sets {
         let length = host::suffix(set.number, &mut out);
         assert_eq!(rust(set), text(&out, length), "of {}", set.number);
     }
-    in_turns(&rooted, rust, |set| host::suffix(set.number, &mut out))
+    in_turns(sets, rust, |set| host::suffix(set.number, &mut out))
 }
 
 pub fn quality() -> Times {

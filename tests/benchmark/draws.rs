@@ -24,6 +24,19 @@ impl Draws {
         (0..count).map(|_| self.list(length)).collect()
     }
 
+    /// As many classes, each once and at any octave.
+    fn list_of_classes(&mut self, classes: usize) -> Vec<u8> {
+        let mut left: Vec<usize> = (0..12).collect();
+        let mut drawn = || left.swap_remove(self.below(left.len()));
+        let classes: Vec<usize> = (0..classes).map(|_| drawn()).collect();
+        let code = |class| (class + 12 * self.below(10)) as u8;
+        classes.into_iter().map(code).collect()
+    }
+
+    pub fn lists_of_classes(&mut self, count: usize, classes: usize) -> Vec<Vec<u8>> {
+        (0..count).map(|_| self.list_of_classes(classes)).collect()
+    }
+
     pub fn lists_up_to(&mut self, count: usize, longest: usize) -> Vec<Vec<u8>> {
         (0..count)
             .map(|_| {

@@ -3,7 +3,7 @@
 
 use std::collections::BTreeMap;
 
-use crate::chords::{Set, of_one_root, rooted};
+use crate::chords::{Set, of_one_root, rooted, rooted_of};
 use crate::host;
 use crate::turns::{Times, in_turns};
 
@@ -17,6 +17,12 @@ pub fn every_suffix() -> Times {
     let texts: Vec<String> = inverse(&rooted()).into_keys().collect();
     assert_eq!(texts.len(), 1_171, "suffixes");
     of_texts(&texts)
+}
+
+/// The suffixes of the sets of so many classes.
+pub fn suffixes_of(classes: usize) -> Times {
+    let texts = inverse(&rooted_of(classes..=classes)).into_keys();
+    of_texts(&texts.collect::<Vec<_>>())
 }
 
 /// Suffixes with one byte made an `x`, which none has: a comparison goes on to the place of it.

@@ -39,8 +39,17 @@ const LENGTHS: [(&str, usize, usize); 6] = [
 ];
 
 fn main() {
-    let mut draws = Draws(1);
     println!("nanoseconds per call                          Rust     Hemotusap     ratio");
+    calls();
+    println!("\nby the number of classes, each as Rust, Hemotusap, ratio");
+    println!("          candidates               suffix              listing              voicing");
+    for classes in 1..=12 {
+        by_classes(classes);
+    }
+}
+
+fn calls() {
+    let mut draws = Draws(1);
     row(
         "candidates of 1 to 10 codes",
         candidates(&draws.lists_up_to(1_000, 10)),
@@ -48,7 +57,7 @@ fn main() {
     for (what, length, count) in LENGTHS {
         row(what, candidates(&draws.lists(count, length)));
     }
-    row("suffix, 2,048 rooted sets", chords::suffix());
+    row("suffix, 2,048 rooted sets", chords::suffix(1..=12));
     row(
         "suffix, the Rust by its public call",
         chords::suffix_beside_public_call(),
@@ -56,7 +65,7 @@ fn main() {
     row("listing, all 1,171 suffixes", listings::every_suffix());
     row("listing, texts that no set has", listings::no_suffix());
     row("listing, longer than any suffix", listings::too_long());
-    row("voicing, chords of 3 to 8 tones", voiced::of_3_to_8());
+    row("voicing, chords of 3 to 8 tones", voiced::of_tones(3..=8));
     row("quality, 4,096 sets", chords::quality());
     row("get_note, 31,850 moves", moves::get_note());
 }
@@ -64,4 +73,19 @@ fn main() {
 fn row(what: &str, times: Times) {
     let Times { rust, ours } = times;
     println!("{what:<36}{rust:>14.1}{ours:>14.1}{:>10.2}", rust / ours);
+}
+
+/// Lists of so many keys of different classes, and the rooted sets of so many classes.
+fn by_classes(classes: usize) {
+    let lists = Draws(1).lists_of_classes(1_000, classes);
+    print!("{classes:<4}");
+    for Times { rust, ours } in [
+        candidates(&lists),
+        chords::suffix(classes..=classes),
+        listings::suffixes_of(classes),
+        voiced::of_tones(classes..=classes),
+    ] {
+        print!("{rust:>9.0}{ours:>7.0}{:>5.1}", rust / ours);
+    }
+    println!();
 }

@@ -1,7 +1,9 @@
 //! Voicings of the chords of rooted sets. Each is first held to the Rust's, of which the record is made before.
 
+use std::ops::RangeInclusive;
+
 use crate::chord::Chord;
-use crate::chords::{Set, rooted};
+use crate::chords::{Set, rooted_of};
 use crate::draws::Draws;
 use crate::host;
 use crate::notes;
@@ -23,15 +25,11 @@ struct Voiced {
 }
 
 /// In the order of their sets, chords of few and of many tones stand beside each other.
-pub fn of_3_to_8() -> Times {
+pub fn of_tones(tones: RangeInclusive<usize>) -> Times {
     let mut draws = Draws(1);
-    let chords: Vec<Voiced> = rooted()
-        .iter()
-        .filter(|set| (3..=8).contains(&set.classes.len()))
-        .map(|set| voiced(set, &mut draws))
-        .collect();
-    assert_eq!(chords.len(), 1_804, "chords");
-    in_turns_of(&chords)
+    let sets = rooted_of(tones);
+    let voiced = |set| voiced(set, &mut draws);
+    in_turns_of(&sets.iter().map(voiced).collect::<Vec<_>>())
 }
 
 /// On any root; half have a bass, and half a lead, which is a key of the range.
