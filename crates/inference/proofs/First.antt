@@ -1,16 +1,19 @@
 -- The lowest bit of a set of intervals is its first interval: the rest of them are those of the set without that bit.
 --     First      an interval is the first of a set, at a number below 23
 --     first-of   the count of zeros below the lowest bit finds it
+--     lowest-of, number-small, bit, bit-within, less      a turn of a loop that takes it: its number, its bit as the code has it (a 1,
+--                shifted), and what is left once it is taken
 use mathlib.Core.Path.{_≡_, refl, sym, ap, subst, _∙_}
 use mathlib.Core.Bool.{Bool, true, cond, _&&_}
 use mathlib.Core.List.{List, [], _∷_}
 use mathlib.Core.Logic.{⊎-elim}
 use Prim.Native.Nat.{ℕ, zero, suc, _*_, _/_, _%_, _-_, _^_, _≤_, _<_}
 use native.Mathlib.Omega.{arith}
-use native.Mathlib.Nat.{pow-suc, div-div-eq-div-mul, div-one, eq-or-lt-of-le, not-suc-le-zero, le-of-suc-le-suc}
+use native.Mathlib.Nat.{pow-suc, div-div-eq-div-mul, div-one, eq-or-lt-of-le, not-suc-le-zero, le-of-suc-le-suc, mod-eq-of-lt, one-mul}
 use lib.Count.{trailingZeros, under}
 use lib.Dec.{T, eqb, eqb→eq}
 use lib.ListN.{length}
+use lib.Pow.{pow-pos}
 use borrow.Author.Tests.{eq-eqb, ne-eqb}
 use Rattle.answer.proofs.Tests.{left, right}
 use Rattle.chord.specs.Sets.{has}
@@ -111,6 +114,22 @@ first-of n p h =
       bit = low .bit;
       rest = in-marked n ∙ low .rest ∙ ap (λ (l : List Interval). low .first ∷ l) (sym (in-marked (n - 2 ^ trailingZeros 32 n)));
     }
+
+module _ (left : ℕ) (some : left ≡ 0 → ⊥) (small : left < 2 ^ 23) where
+  pub lowest-of : First left (trailingZeros 32 left)
+  lowest-of = first-of left (let p : 0 < left = omega arith in p) small
+
+  pub number-small : trailingZeros 32 left < 32
+  number-small = omega (arith, lowest-of .within)
+
+  pub bit : (1 * 2 ^ trailingZeros 32 left) % 2 ^ 32 ≡ 2 ^ trailingZeros 32 left
+  bit = ap (λ (x : ℕ). x % 2 ^ 32) (one-mul (2 ^ trailingZeros 32 left)) ∙ mod-eq-of-lt (omega (arith, lowest-of .bit))
+
+  pub bit-within : (1 * 2 ^ trailingZeros 32 left) % 2 ^ 32 ≤ left
+  bit-within = rw bit (lowest-of .bit)
+
+  pub less : left - (1 * 2 ^ trailingZeros 32 left) % 2 ^ 32 < left
+  less = rw bit (omega (arith, lowest-of .bit, pow-pos (trailingZeros 32 left)))
 
 pub none-in : intervalsIn 0 ≡ []
 unfolding intervals keep has intervalsIn

@@ -8,9 +8,7 @@ use mathlib.Core.Bool.{Bool, true, false, cond}
 use mathlib.Core.List.{List, [], _++_, append-nil, append-assoc}
 use Prim.Native.Nat.{ℕ, _+_, _*_, _%_, _-_, _^_, _≤_, _<_}
 use native.Mathlib.Omega.{arith}
-use native.Mathlib.Nat.{mod-eq-of-lt, one-mul}
 use lib.Count.{trailingZeros}
-use lib.Pow.{pow-pos}
 use lib.Dec.{eqb}
 use lib.ListN.{length, length-append}
 use borrow.Author.Tests.{ne-eqb}
@@ -22,7 +20,7 @@ use Rattle.answer.specs.Written.{Writes}
 use Rattle.inference.specs.Held.{carriedText, part}
 use Rattle.inference.specs.declared.wording.Carried.{Carried}
 use Rattle.inference.specs.declared.wording.Carried.the-variants as Carries
-use Rattle.inference.proofs.First.{First, first-of, none-in}
+use Rattle.inference.proofs.First.{First, lowest-of, bit, none-in}
 use Rattle.answer.proofs.Writing.{nothing, also}
 
 abbrev pub textOf : ℕ → ℕ → Carried → ℕ → List ℕ
@@ -49,7 +47,7 @@ module _ (l₀ : List ℕ) (from start set : ℕ) (first : Carried) (l : List �
 
   module _ (some : left ≡ 0 → ⊥) where
     f : First left (trailingZeros 32 left)
-    f = first-of left (let p : 0 < left = omega arith in p) (t .small)
+    f = lowest-of left some (t .small)
 
     abbrev pub here : List ℕ
     here = part (eqb at start) carried (numbered (trailingZeros 32 left))
@@ -58,18 +56,6 @@ module _ (l₀ : List ℕ) (from start set : ℕ) (first : Carried) (l : List �
     split : textOf at start carried left ≡ here ++ listed false (worded [] (intervalsIn (left - 2 ^ trailingZeros 32 left)))
     unfolding worded listed
     split = rw (f .rest, f .there) (simp append-assoc)
-
-    pub number-small : trailingZeros 32 left < 32
-    number-small = omega (arith, f .within)
-
-    bit : (1 * 2 ^ trailingZeros 32 left) % 2 ^ 32 ≡ 2 ^ trailingZeros 32 left
-    bit = ap (λ (x : ℕ). x % 2 ^ 32) (one-mul (2 ^ trailingZeros 32 left)) ∙ mod-eq-of-lt (omega (arith, f .bit, t .small))
-
-    pub bit-within : (1 * 2 ^ trailingZeros 32 left) % 2 ^ 32 ≤ left
-    bit-within = rw bit (f .bit)
-
-    pub less : left - (1 * 2 ^ trailingZeros 32 left) % 2 ^ 32 < left
-    less = rw bit (omega (arith, f .bit, pow-pos (trailingZeros 32 left)))
 
     pub room : from + length (textOf from start first set) + 8 ≤ length l₀ → at + length here + 8 ≤ length l
     room h =
@@ -87,7 +73,7 @@ module _ (l₀ : List ℕ) (from start set : ℕ) (first : Carried) (l : List �
     turn r l′ w kept =
         let past : 1 ≤ length here = starts (eqb at start) _ _ in
         let not-start : r ≡ start → ⊥ = λ e. omega (arith, w .place, t .behind) in
-        rw bit
+        rw (bit left some (t .small))
         record {
           done = t .done ++ here;
           wrote = also (t .wrote) w;

@@ -10,9 +10,8 @@ use mathlib.Core.Path.{_≡_, refl, sym, ap, subst, _∙_}
 use mathlib.Core.List.{List, [], _∷_, _++_, append-nil, append-assoc}
 use Prim.Native.Nat.{ℕ, zero, suc, _+_, _*_, _%_, _-_, _^_, _≤_, _<_}
 use native.Mathlib.Omega.{arith}
-use native.Mathlib.Nat.{mod-eq-of-lt, one-mul, not-suc-le-zero}
+use native.Mathlib.Nat.{not-suc-le-zero}
 use lib.Count.{trailingZeros}
-use lib.Pow.{pow-pos}
 use lib.Dec.{T, leb, leb→le}
 use lib.ListN.{length, take, drop, length-append}
 use Rattle.answer.specs.Words.{bytes, low, packed, placeAfter, putAt}
@@ -26,7 +25,7 @@ use Rattle.chord.specs.declared.interval.Interval.{Interval}
 use Rattle.chord.specs.declared.interval.Numbered.{Numbered}
 use Rattle.chord.specs.declared.interval.Numbered.the-variants.{Is, Nothing}
 use Rattle.inference.specs.Intervals.{intervalsIn}
-use Rattle.inference.proofs.First.{First, first-of, none-in}
+use Rattle.inference.proofs.First.{First, lowest-of, bit, none-in}
 use Rattle.spelling.specs.Tones.{numberedName, names, spaced, joined}
 use Rattle.spelling.proofs.Spelled.{tone-short}
 
@@ -63,7 +62,7 @@ module _ (root : Note) (l₀ : List ℕ) (set : ℕ) (l : List ℕ) (at left : �
 
   module _ (some : left ≡ 0 → ⊥) where
     f : First left (trailingZeros 32 left)
-    f = first-of left (let p : 0 < left = omega arith in p) (t .small)
+    f = lowest-of left some (t .small)
 
     abbrev name : List ℕ
     name = numberedName degreeOf root (numbered (trailingZeros 32 left))
@@ -72,18 +71,6 @@ module _ (root : Note) (l₀ : List ℕ) (set : ℕ) (l : List ℕ) (at left : �
     split : rowOf root left ≡ (bytes " " ++ name) ++ rowOf root (left - 2 ^ trailingZeros 32 left)
     unfolding spaced
     split = rw (f .rest, f .there) (simp append-assoc)
-
-    pub number-small : trailingZeros 32 left < 32
-    number-small = omega (arith, f .within)
-
-    bit : (1 * 2 ^ trailingZeros 32 left) % 2 ^ 32 ≡ 2 ^ trailingZeros 32 left
-    bit = ap (λ (x : ℕ). x % 2 ^ 32) (one-mul (2 ^ trailingZeros 32 left)) ∙ mod-eq-of-lt (omega (arith, f .bit, t .small))
-
-    pub bit-within : (1 * 2 ^ trailingZeros 32 left) % 2 ^ 32 ≤ left
-    bit-within = rw bit (f .bit)
-
-    pub less : left - (1 * 2 ^ trailingZeros 32 left) % 2 ^ 32 < left
-    less = rw bit (omega (arith, f .bit, pow-pos (trailingZeros 32 left)))
 
     -- a space and the name, from what the two calls told
     pub puts : (r₁ : ℕ) (l₁ : List ℕ) → (r₁ ≡ placeAfter l at 0x0100000000000020) × (l₁ ≡ putAt l at 0x0100000000000020) → length l₁ ≡ length l
@@ -100,7 +87,7 @@ module _ (root : Note) (l₀ : List ℕ) (set : ℕ) (l : List ℕ) (at left : �
     turn r l′ p =
         let long = ap length (f .rest) in
         let short = seven name (numbered-short root (numbered (trailingZeros 32 left))) in
-        rw bit
+        rw (bit left some (t .small))
         record {
           done = t .done ++ (bytes " " ++ name);
           wrote = also (t .wrote) (p .wrote);

@@ -1,6 +1,7 @@
 -- `inference::normalize::put_parts` meets its contract. The loop's invariant: what is written so far, with what is left to write, is
 -- the whole.
-use Rattle.inference.proofs.Turn.{Turn, begin, end, turn, number-small, bit-within, less, room}
+use Rattle.inference.proofs.First.{number-small, bit-within, less}
+use Rattle.inference.proofs.Turn.{Turn, begin, end, turn, room}
 use Rattle.inference.proofs.normalize.put_parts.Statement.{statement}
 use Rattle.inference.proofs.normalize.put_parts.Tie as tie
 
@@ -18,9 +19,9 @@ put-parts-spec =
     μ-loop
     (λ c. begin _ _ _ _ _ (c .before .pre .0) (c .before .pre .1))
     (λ c κs. room _ _ _ _ _ _ _ _ _ (c .before .before .loop .inv) (c .before .loop-test .taken) (c .before .before .before .before .pre .2))
-    (λ c. number-small _ _ _ _ _ _ _ _ _ (c .before .before .before .before .before .loop .inv) (c .before .before .before .before .loop-test .taken))
-    (λ c. bit-within _ _ _ _ _ _ _ _ _ (c .before .before .before .before .before .loop .inv) (c .before .before .before .before .loop-test .taken))
-    (λ c. less _ _ _ _ _ _ _ _ _ (c .before .before .before .before .before .loop .inv) (c .before .before .before .before .loop-test .taken))
+    (λ c. number-small _ (c .before .before .before .before .loop-test .taken) (c .before .before .before .before .before .loop .inv .small))
+    (λ c. bit-within _ (c .before .before .before .before .loop-test .taken) (c .before .before .before .before .before .loop .inv .small))
+    (λ c. less _ (c .before .before .before .before .loop-test .taken) (c .before .before .before .before .before .loop .inv .small))
     (λ c. turn _ _ _ _ _ _ _ _ _ (c .before .before .before .before .before .loop .inv) (c .before .before .before .before .loop-test .taken) _ _ (c .before .before .put-part .ensures) (c .before .before .put-part .kept .0))
     (λ c. c .before .loop .inv .same)
     (λ c. end _ _ _ _ _ _ _ _ _ (c .before .loop .inv) (c .loop-test .left)))

@@ -1,7 +1,8 @@
 -- `spelling::tones::put_tones` meets its contract. The loop's invariant: what is written so far, with what is left to write, is the
 -- whole.
 use borrow.Author.Needs.{needs}
-use Rattle.spelling.proofs.Row.{Row, begin, end, puts, turn, number-small, bit-within, less}
+use Rattle.inference.proofs.First.{number-small, bit-within, less}
+use Rattle.spelling.proofs.Row.{Row, begin, end, puts, turn}
 use Rattle.spelling.proofs.tones.put_tones.Statement.{statement}
 use Rattle.spelling.proofs.tones.put_tones.Tie as tie
 
@@ -31,9 +32,9 @@ put-tones-spec =
     (λ c κs. search needs)
     (λ c κs. c .before .before .before .before .before .before .before .before .pre .0)
     (λ c κs. search needs)
-    (λ c. number-small _ _ _ _ _ _ (c .before .before .before .before .before .before .before .before .before .before .loop .inv) (c .before .before .before .before .before .before .before .before .before .loop-test .taken))
-    (λ c. bit-within _ _ _ _ _ _ (c .before .before .before .before .before .before .before .before .before .before .loop .inv) (c .before .before .before .before .before .before .before .before .before .loop-test .taken))
-    (λ c. less _ _ _ _ _ _ (c .before .before .before .before .before .before .before .before .before .before .loop .inv) (c .before .before .before .before .before .before .before .before .before .loop-test .taken))
+    (λ c. number-small _ (c .before .before .before .before .before .before .before .before .before .loop-test .taken) (c .before .before .before .before .before .before .before .before .before .before .loop .inv .small))
+    (λ c. bit-within _ (c .before .before .before .before .before .before .before .before .before .loop-test .taken) (c .before .before .before .before .before .before .before .before .before .before .loop .inv .small))
+    (λ c. less _ (c .before .before .before .before .before .before .before .before .before .loop-test .taken) (c .before .before .before .before .before .before .before .before .before .before .loop .inv .small))
     loop-again
     (λ c. c .before .loop .inv .same)
     (λ c. end _ _ _ _ _ _ (c .before .loop .inv) (c .loop-test .left)))
