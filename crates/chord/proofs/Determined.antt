@@ -9,6 +9,7 @@ use Rattle.chord.proofs.interval.Interval.degree.Reads as degree
 use Rattle.chord.proofs.interval.Interval.to_degree.Reads as to-degree
 use Rattle.chord.proofs.interval.Interval.to_chord_notation.Reads as to-chord-notation
 use Rattle.chord.proofs.interval.IntDegree.numeric.Reads as numeric
+use Rattle.chord.proofs.set.is_rooted.Reads as is-rooted
 use Rattle.chord.proofs.quality.quality.Reads as quality
 use Rattle.chord.proofs.quality.ChordQuality.number.Reads as quality-number
 use Rattle.chord.proofs.quality.ChordQuality.self_mask.Reads as self-mask
@@ -42,6 +43,9 @@ to-chord-notation-decides κs a r r′ s s′ = determined
 
 pub numeric-decides : Decides numeric.Post
 numeric-decides κs a r r′ s s′ = determined
+
+pub is-rooted-decides : Decides is-rooted.Post
+is-rooted-decides κs a r r′ s s′ = determined
 
 pub quality-decides : Decides quality.Post
 quality-decides κs a r r′ s s′ = determined

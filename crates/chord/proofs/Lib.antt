@@ -5,3 +5,4 @@ pub mod Moves
 pub mod Names
 pub mod Determined
 pub mod Members
+pub mod Rooted

@@ -2,3 +2,4 @@
 pub mod interval;
 pub mod note;
 pub mod quality;
+pub mod set;

@@ -12,6 +12,7 @@ use crate::interval::NINTH;
 use crate::interval::SHARP_ELEVENTH;
 use crate::interval::SHARP_NINTH;
 use crate::interval::THIRTEENTH;
+use crate::set::LAST_SET;
 use answer::refusal::Refusal;
 ghost use mathlib.Core.Path.{_≡_};
 ghost use Prim.Native.Nat.{_<_};
@@ -107,7 +108,7 @@ const STACK_11: u32 = 1 << 7 | 1 << 9 | 1 << 11 | 1 << 13;
 pub fn quality(set: u32) -> QualityAnswer
     ensures { λ r. ⌜ r ≡ qualityAnswer set ⌝ }
 {
-    if set > 4095 {
+    if set > LAST_SET {
         return QualityAnswer::Refused(Refusal::NotASet);
     }
     QualityAnswer::Is(first_rule(set))

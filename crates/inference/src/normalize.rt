@@ -17,6 +17,7 @@ use answer::refusal::Refusal;
 use answer::word::put;
 use chord::interval::Interval;
 use chord::interval::Numbered;
+use chord::set::is_rooted;
 ghost use mathlib.Core.Path.{_≡_};
 ghost use mathlib.Core.List.{_++_};
 ghost use Prim.Native.Nat.{_+_, _%_, _≤_, _<_, _^_};
@@ -30,9 +31,6 @@ ghost use Rattle.inference.specs.Suffix.{worded, listed, parts, parenthe
 ghost use Rattle.answer.specs.Written.{Writes};
 ghost use Rattle.inference.specs.Held.{Reads, addSet, modifierRead, carriedText, part};
 
-// The last of the sets.
-const LAST_SET: u32 = 4095;
-
 // The longest that a suffix can be.
 const LONGEST: usize = 64;
 
@@ -43,10 +41,7 @@ const ROOM: usize = LONGEST + 8;
 pub fn suffix(set: u32, out: &mut [u8]) -> Output
     ensures { λ r. ⌜ (r ≡ outputOf (suffixReply set) (now (out .entry))) × (now (out .exit) ≡ roomAfter (suffixReply set) (now (out .entry))) ⌝ }
 {
-    if set > LAST_SET {
-        return Output::Refused(Refusal::NotASet);
-    }
-    if set % 2 == 0 {
+    if !is_rooted(set) {
         return Output::Refused(Refusal::NotASet);
     }
     let mut buffer = [0u8; ROOM];

@@ -8,6 +8,7 @@ use chord::interval::Numbered;
 use chord::note::Accidental;
 use chord::note::Note;
 use chord::note::NoteAnswer;
+use chord::set::is_rooted;
 use inference::intervals::intervals;
 ghost use mathlib.Core.Path.{_≡_};
 ghost use mathlib.Core.Bool.{true};
@@ -20,9 +21,6 @@ ghost use Rattle.chord.specs.Intervals.{numbered, degreeOf};
 ghost use Rattle.chord.specs.Notes.{isNote};
 ghost use Rattle.inference.specs.Intervals.{intervalsIn};
 ghost use Rattle.spelling.specs.Tones.{plain, flat, rootNote, toneName, numberedName, spaced, names, tonesReply};
-
-// The last of the sets, and the last of the classes.
-const LAST_SET: u32 = 4095;
 
 const LAST_CLASS: u32 = 11;
 
@@ -116,10 +114,7 @@ fn put_tones(buffer: &mut [u8], root: Note, set: u32) -> usize
 pub fn tones(root: u32, set: u32, out: &mut [u8]) -> Output
     ensures { λ r. ⌜ (r ≡ outputOf (tonesReply degreeOf root set) (now (out .entry))) × (now (out .exit) ≡ roomAfter (tonesReply degreeOf root set) (now (out .entry))) ⌝ }
 {
-    if set > LAST_SET {
-        return Output::Refused(Refusal::NotASet);
-    }
-    if set % 2 == 0 {
+    if !is_rooted(set) {
         return Output::Refused(Refusal::NotASet);
     }
     if root > LAST_CLASS {

@@ -1,7 +1,8 @@
 -- `spelling::tones::tones` meets its contract: the tests say what the call has to give, and `give` gives it.
 use mathlib.Core.Path.{_≡_, sym, ap, subst, _∙_}
+use mathlib.Core.Bool.{true}
 use mathlib.Core.List.{List}
-use Prim.Native.Nat.{ℕ, _%_, _-_, _<_, _≤_}
+use Prim.Native.Nat.{ℕ, _%_, _<_, _≤_}
 use native.Mathlib.Nat.{zero-add, mod-eq-of-lt}
 use native.Mathlib.Omega.{arith}
 use lib.ListN.{length, take}
@@ -9,6 +10,9 @@ use denote.Ref.{now}
 use borrow.Author.Needs.{needs}
 use Rattle.answer.specs.Replies.{Reply, text}
 use Rattle.answer.proofs.Rooms.{Answered, refused-by}
+use Rattle.answer.proofs.Tests.{refused, admitted}
+use Rattle.chord.specs.Sets.{isRooted}
+use Rattle.chord.proofs.Rooted.{rooted-small, rooted-odd}
 use Rattle.chord.specs.Intervals.{degreeOf, setOf}
 use Rattle.chord.specs.declared.note.Note.{Note}
 use Rattle.chord.specs.declared.interval.Interval.{Interval}
@@ -17,26 +21,29 @@ use Rattle.spelling.specs.Tones.{rootNote, names, spaced, tonesOf}
 use Rattle.spelling.proofs.Spelled.{root-is}
 use Rattle.spelling.proofs.Counted.{some, few, small, back}
 use Rattle.spelling.proofs.Row.{row-some, row-long, given}
-use Rattle.spelling.proofs.Replied.{no-set, not-rooted, no-class, told}
+use Rattle.spelling.proofs.Replied.{not-rooted, no-class, told}
 use Rattle.spelling.proofs.tones.tones.Statement.{statement}
 use Rattle.spelling.proofs.tones.tones.Tie as tie
 
 -- the numbers that no test refused
-module _ (c : tie.Else3) where
+module _ (c : tie.Else2) where
   abbrev set : ℕ
   set = c .before .before .before .before .args .set
 
   abbrev root : ℕ
   root = c .before .before .before .before .args .root
 
+  is : isRooted set ≡ true
+  is = admitted _ _ (c .before .before .is-rooted .ensures) (c .before .if1 .left)
+
   is-set : set < 4096
-  is-set = let h = c .before .before .if1 .left in omega arith
+  is-set = let h = rooted-small set is in omega arith
 
   is-odd : set % 2 ≡ 1
-  is-odd = let h = c .before .if2 .left in omega arith
+  is-odd = rooted-odd set is
 
   is-class : root < 12
-  is-class = let h = c .if3 .left in omega arith
+  is-class = let h = c .if2 .left in omega arith
 
 -- the intervals that the code has are the set's
 found : (c : tie.After-intervals) → c .intervals .result ≡ setOf (intervalsOf (set (c .before .before .before)))
@@ -72,23 +79,23 @@ counts c =
     let twelve = few (set e) (is-set e) (is-odd e) in
     (rw place least, omega (arith, place, most, twelve, c .put-tones .kept .0))
 
-returns-4 : tie.Need-returns-4
+returns-3 : tie.Need-returns-3
 unfolding tonesOf
-returns-4 c =
+returns-3 c =
     let g = c .before .before in
     let put = g .before .before .before .before .before in
     let e = put .before .before .before .before in
     let row = given (rootNote (root e)) (intervalsOf (set e)) (put .put-tones .last .0) (put .put-tones .result) (some (set e) (is-set e) (is-odd e)) (stands put) in
-    let reply = ap text row ∙ sym (told degreeOf (root e) (set e) (e .before .before .if1 .left) (is-odd e) (e .if3 .left)) in
+    let reply = ap text row ∙ sym (told degreeOf (root e) (set e) (is e) (e .if2 .left)) in
     subst (λ (x : Reply). Answered x (now (e .before .before .before .before .args .out)) (g .give .result) (g .give .last .1 .0)) reply (g .give .ensures)
 
 pub tones-spec : {M : Type 1} → statement M
 tones-spec =
     tie.close
     (tie.spec
-    (λ c. refused-by _ _ _ (no-set degreeOf _ _ (c .if1 .taken)))
-    (λ c. refused-by _ _ _ (not-rooted degreeOf _ _ (c .before .if1 .left) (c .if2 .taken)))
-    (λ c. refused-by _ _ _ (no-class degreeOf _ _ (c .before .before .if1 .left) (let h = c .before .if2 .left in omega arith) (c .if3 .taken)))
+    (λ c κs. search needs)
+    (λ c. refused-by _ _ _ (not-rooted degreeOf _ _ (refused _ _ (c .before .is-rooted .ensures) (c .if1 .taken))))
+    (λ c. refused-by _ _ _ (no-class degreeOf _ _ (admitted _ _ (c .before .before .is-rooted .ensures) (c .before .if1 .left)) (c .if2 .taken)))
     (λ c. search needs)
     (λ c κs. search needs)
     (λ c κs. search needs)
@@ -98,4 +105,4 @@ tones-spec =
     (λ c. counts (c .before .before) .1)
     (λ c κs. search needs)
     (λ c. search needs)
-    returns-4)
+    returns-3)
