@@ -2,6 +2,8 @@
 ghost use mathlib.Core.Path.{_≡_};
 ghost use Rattle.chord.specs.Sets.{isRooted};
 
+pub const LAST_CLASS: u32 = 11;
+
 pub const LAST_SET: u32 = 4095;
 
 // Whether a number is a set with class 0 in it.

@@ -8,6 +8,7 @@ use chord::interval::Numbered;
 use chord::note::Accidental;
 use chord::note::Note;
 use chord::note::NoteAnswer;
+use chord::set::LAST_CLASS;
 use chord::set::is_rooted;
 use inference::intervals::intervals;
 ghost use mathlib.Core.Path.{_≡_};
@@ -21,8 +22,6 @@ ghost use Rattle.chord.specs.Intervals.{numbered, degreeOf};
 ghost use Rattle.chord.specs.Notes.{isNote};
 ghost use Rattle.inference.specs.Intervals.{intervalsIn};
 ghost use Rattle.spelling.specs.Tones.{plain, flat, rootNote, toneName, numberedName, spaced, names, tonesReply};
-
-const LAST_CLASS: u32 = 11;
 
 // A space, as a word.
 const SPACE: u64 = 0x0100000000000020;

@@ -10,6 +10,7 @@ use crate::range::HIGHEST;
 use answer::output::Output;
 use answer::output::give;
 use answer::refusal::Refusal;
+use chord::set::LAST_CLASS;
 ghost use mathlib.Core.Path.{_≡_};
 ghost use mathlib.Core.Bool.{true};
 ghost use Prim.Native.Nat.{_+_, _≤_};
@@ -36,8 +37,6 @@ pub struct Chord {
     pub bass: Bass,
     pub lead: Lead,
 }
-
-const LAST_CLASS: u32 = 11;
 
 const LAST_NOTE: u8 = 11;
 
