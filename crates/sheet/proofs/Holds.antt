@@ -21,7 +21,8 @@ use Rattle.inference.specs.Heading.{nine, heading, sus}
 use Rattle.inference.specs.Suffix.{worded, addParts, parts, listed, close, parenthesized, suffixOf, suffixReply}
 use Rattle.inference.proofs.Agree.{at-rooted, same-bool, same-bool→eq}
 use Rattle.listing.specs.Listing.{matching, setsOf, inBytes, listingOf}
-use Rattle.voicings.specs.Pool.{tonesOf, insert, sorted}
+use Rattle.voicings.specs.Pool.{tonesOf}
+use Rattle.voicings.specs.Order.{insert, sorted}
 use Rattle.voicings.specs.Choice.{keysFrom, keysOf, best, offersOf, offers, bestOf, without, chosen, others, placedIn, placed}
 use Rattle.voicings.specs.Lead.{barring, lastOf, unbarred, owns, isOwned, withoutLast, leadOf}
 use Rattle.voicings.specs.Guides.{holdsAny, sixths, sevenths, guides, tensions, guideKeys, tensionKeys}

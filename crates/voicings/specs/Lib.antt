@@ -1,5 +1,6 @@
 pub mod Range
 pub mod Pool
+pub mod Order
 pub mod Choice
 pub mod Offered
 pub mod Lead

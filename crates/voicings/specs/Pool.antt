@@ -1,15 +1,10 @@
--- The pool: paper 01, "Voicing (001)" ("A tone's base is its interval's semitones mod 12"; "Tones are ordered by base, equal bases in
--- the order given").
+-- The pool: paper 01, "Voicing (001)" ("A tone's base is its interval's semitones mod 12").
 --     baseOf       the base of what a number names, by the table of intervals
 --     toneOf       the tone of a note class and an interval's number
 --     tonesOf      the tones of two ranges: "Only as many pairs as the shorter range has are used"
 --     tonesIn      the tones of a pool as the code has it
---     insert       a tone goes before the first whose base is not less than its own
---     sorted       tones in order of base, equal bases in the list's order
-use mathlib.Core.Bool.{cond}
 use mathlib.Core.List.{List, [], _∷_}
 use Prim.Native.Nat.{ℕ}
-use lib.Dec.{ltb}
 use lib.ListN.{take}
 use Rattle.chord.specs.Intervals.{numbered, classOf}
 use Rattle.chord.specs.declared.interval.Numbered.{Numbered}
@@ -34,11 +29,3 @@ tonesOf (c ∷ classes) (i ∷ intervals) = toneOf c i ∷ tonesOf classes inter
 
 abbrev pub tonesIn : Pool → List Tone
 tonesIn pool = take (pool .count) (pool .tones)
-
-unfoldable pub insert : Tone → List Tone → List Tone
-insert t [] = t ∷ []
-insert t (x ∷ more) = cond (ltb (x .base) (t .base)) (x ∷ insert t more) (t ∷ x ∷ more)
-
-unfoldable pub sorted : List Tone → List Tone
-sorted [] = []
-sorted (t ∷ more) = insert t (sorted more)

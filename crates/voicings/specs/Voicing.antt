@@ -18,7 +18,8 @@ use Rattle.voicings.specs.declared.voicing.Bass.the-variants as Bass
 use Rattle.voicings.specs.declared.voicing.Lead.{Lead}
 use Rattle.voicings.specs.declared.voicing.Lead.the-variants as Lead
 use Rattle.voicings.specs.declared.voicing.Chord.{Chord}
-use Rattle.voicings.specs.Pool.{tonesOf, sorted}
+use Rattle.voicings.specs.Pool.{tonesOf}
+use Rattle.voicings.specs.Order.{sorted}
 use Rattle.voicings.specs.Lead.{leadOf, withoutLast}
 use Rattle.voicings.specs.Guides.{guideKeys, tensionKeys}
 

@@ -4,6 +4,7 @@ mod guides;
 mod keys;
 mod lead;
 mod offers;
+mod order;
 mod pool;
 mod range;
 pub mod voicing;

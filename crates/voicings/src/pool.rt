@@ -1,10 +1,10 @@
-// The pool of a chord's tones, ordered by base.
+// The pool of a chord's tones.
 use chord::interval::Interval;
 use chord::interval::Numbered;
 ghost use mathlib.Core.Path.{_≡_};
-ghost use Prim.Native.Nat.{_-_, _+_, _≤_, _<_};
+ghost use Prim.Native.Nat.{_≤_};
 ghost use lib.ListN.{length, take};
-ghost use Rattle.voicings.specs.Pool.{baseOf, toneOf, tonesOf, sorted};
+ghost use Rattle.voicings.specs.Pool.{baseOf, toneOf, tonesOf};
 
 // A tone of a chord: its interval's semitones in one octave, its class, and its interval's number.
 pub struct Tone {
@@ -40,32 +40,20 @@ impl Tone {
     }
 }
 
-// The tones of the first pairs in order of base, tones of equal base in the order given: from the last pair to the first, each tone
-// goes on into its place among those behind it.
-pub(crate) fn arranged(classes: &[u8], intervals: &[u8], count: usize) -> [Tone; 16]
+// The tones of the first pairs, in the order given.
+pub(crate) fn gathered(classes: &[u8], intervals: &[u8], count: usize) -> [Tone; 16]
     requires { ⌜ (count ≤ 16) × (count ≤ length (now classes)) × (count ≤ length (now intervals)) ⌝ }
-    ensures { λ r. ⌜ (length r ≡ 16) × (take count r ≡ sorted (tonesOf (take count (now (classes .entry))) (take count (now (intervals .entry))))) ⌝ }
+    ensures { λ r. ⌜ (length r ≡ 16) × (take count r ≡ tonesOf (take count (now (classes .entry))) (take count (now (intervals .entry)))) ⌝ }
 {
     let mut tones = [Tone {
         base: 0,
         class: 0,
         interval: 0,
     }; 16];
-    let mut i = count;
-    while 0 < i {
-        i -= 1;
+    let mut i = 0;
+    while i < count {
         tones[i] = Tone::new(classes[i], intervals[i]);
-        let mut at = i;
-        while at + 1 < count {
-            let tone = tones[at];
-            let next = tones[at + 1];
-            if tone.base <= next.base {
-                break;
-            }
-            tones[at] = next;
-            tones[at + 1] = tone;
-            at += 1;
-        }
+        i += 1;
     }
     tones
 }

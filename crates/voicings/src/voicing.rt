@@ -4,8 +4,9 @@ use crate::guides::put_guides;
 use crate::guides::put_tensions;
 use crate::lead::lead_key;
 use crate::lead::leave;
+use crate::order::arranged;
 use crate::pool::Pool;
-use crate::pool::arranged;
+use crate::pool::gathered;
 use crate::range::HIGHEST;
 use answer::output::Output;
 use answer::output::give;
@@ -141,7 +142,7 @@ pub fn voicing(chord: Chord, classes: &[u8], intervals: &[u8], out: &mut [u8]) -
     if !are_pairs(classes, intervals, count) {
         return Output::Refused(Refusal::BadPair);
     }
-    let tones = arranged(classes, intervals, count);
+    let tones = arranged(gathered(classes, intervals, count), count);
     let mut buffer = [0u8; ROOM];
     let place = put_bass(&mut buffer, root, bass);
     let end = put_above(&mut buffer, place, Pool { tones, count }, wanted(lead));

@@ -12,7 +12,7 @@ use Rattle.chord.specs.Intervals.{setOf}
 use Rattle.voicings.specs.declared.pool.Tone.{Tone}
 use Rattle.voicings.specs.Guides.{holdsAny, sixths, sevenths}
 use Rattle.voicings.proofs.Left.{next, none}
-use Rattle.voicings.proofs.Order.{blank}
+use Rattle.voicings.proofs.Sift.{blank}
 use Rattle.voicings.proofs.guides.look_for.Statement.{statement}
 use Rattle.voicings.proofs.guides.look_for.Tie as tie
 

@@ -20,7 +20,7 @@ use Rattle.voicings.specs.Offered.{nearestOf}
 use Rattle.voicings.specs.Lead.{leadOf}
 use Rattle.voicings.proofs.Best.{nearer}
 use Rattle.voicings.proofs.Left.{next, none}
-use Rattle.voicings.proofs.Order.{blank}
+use Rattle.voicings.proofs.Sift.{blank}
 use Rattle.voicings.proofs.lead.lead_key.Statement.{statement}
 use Rattle.voicings.proofs.lead.lead_key.Tie as tie
 

@@ -2,7 +2,7 @@
 use mathlib.Core.Path.{_≡_, sym, ap, ap₂, subst, _∙_}
 use mathlib.Core.Bool.{Bool, true, _&&_}
 use mathlib.Core.List.{List, _++_}
-use Prim.Native.Nat.{ℕ, _+_, _≤_, _<_}
+use Prim.Native.Nat.{ℕ, _≤_, _<_}
 use native.Mathlib.Omega.{arith}
 use lib.Dec.{leb, leb→le}
 use lib.ListN.{length, take, replicate}
@@ -14,8 +14,10 @@ use Rattle.answer.proofs.Rooms.{Answered, refused-by}
 use Rattle.answer.proofs.Tests.{left, right, is-true, said, refused, admitted}
 use Rattle.answer.proofs.Writing.{also, same-text, counted, within}
 use Rattle.voicings.specs.declared.pool.Tone.{Tone}
-use Rattle.voicings.specs.Pool.{tonesOf, sorted}
+use Rattle.voicings.specs.Pool.{tonesOf}
+use Rattle.voicings.specs.Order.{sorted}
 use Rattle.voicings.specs.Voicing.{bassKeys, aboveBass, isBass, arePairs, voicingOf}
+use Rattle.voicings.proofs.Sift.{ordered-front}
 use Rattle.voicings.proofs.Replied.{few-classes, few-intervals, first-used, no-class, too-many, bad-pair, told, few-bass}
 use Rattle.voicings.proofs.voicing.voicing.Statement.{statement}
 use Rattle.voicings.proofs.voicing.voicing.Tie as tie
@@ -77,8 +79,17 @@ returns-3 c =
 
 -- the tones of the pool
 module _ (c : tie.After-arranged) where
-  tones : take (count (c .before .before .before)) (c .arranged .result) ≡ sorted (tonesOf (classes (c .before .before .before)) (intervals (c .before .before .before)))
-  tones = c .arranged .ensures .1 ∙ ap sorted (used-tones (c .before .before .before))
+  abbrev pairs : tie.Else2
+  pairs = c .before .before .before .before
+
+  tones : (length (c .arranged .result) ≡ 16)
+      × (take (count pairs) (c .arranged .result) ≡ sorted (tonesOf (classes pairs) (intervals pairs)))
+  tones =
+      let g = c .before .gathered in
+      let o = ordered-front (count pairs) (g .result) (pairs .if2 .left) (rw (g .ensures .0) (pairs .if2 .left)) in (
+        ap length (c .arranged .ensures) ∙ o .0 ∙ g .ensures .0,
+        ap (take (count pairs)) (c .arranged .ensures) ∙ o .1 ∙ ap sorted (g .ensures .1 ∙ used-tones pairs),
+      )
 
 -- the voicing stands at the front of the buffer
 module _ (c : tie.After-put-above) where
@@ -86,13 +97,13 @@ module _ (c : tie.After-put-above) where
   arranged = c .before .before .before .before .before .before
 
   abbrev start : tie.Start
-  start = arranged .before .before .before .before .before .before .before .before .before .before
+  start = pairs arranged .before .before .before .before .before .before .before
 
   stands : Writes (replicate 35 0) 0 (voicingOf 51 79 (start .args .chord) (now (start .args .classes)) (now (start .args .intervals))) (c .put-above .result) (c .put-above .last .0)
   unfolding voicingOf
   stands =
       same-text
-      (ap₂ (λ (w : ℕ) (l : List Tone). bassKeys (start .args .chord .root) (start .args .chord .bass) ++ aboveBass 51 79 w l) (c .before .wanted .ensures) (tones arranged))
+      (ap₂ (λ (w : ℕ) (l : List Tone). bassKeys (start .args .chord .root) (start .args .chord .bass) ++ aboveBass 51 79 w l) (c .before .wanted .ensures) (tones arranged .1))
       (also (c .before .before .before .before .put-bass .ensures) (c .put-above .ensures))
 
 returns-4 : tie.Need-returns-4
@@ -100,8 +111,9 @@ returns-4 c =
     let g = c .before .before in
     let p = g .before .before .before .before in
     let s = start p in
-    let e = arranged p .before .before .before in
-    let good-pairs = admitted _ _ (arranged p .before .before .are-pairs .ensures ∙ ap arePairs (used-tones e)) (arranged p .before .if3 .left) in
+    let a = arranged p .before .before in
+    let e = pairs (arranged p) in
+    let good-pairs = admitted _ _ (a .before .are-pairs .ensures ∙ ap arePairs (used-tones e)) (a .if3 .left) in
     let reply = ap text (stands p .added) ∙ sym (told 51 79 (s .args .chord) (now (s .args .classes)) (now (s .args .intervals)) (good (e .before .before)) (few e) good-pairs) in
     subst (λ (x : Reply). Answered x (now (s .args .out)) (g .give .result) (g .give .last .1 .0)) reply (g .give .ensures)
 
@@ -116,14 +128,15 @@ voicing-spec =
     (λ c κs. (in-classes c, in-intervals c))
     returns-3
     (λ c κs. let e = c .before .before in (e .if2 .left, in-classes e, in-intervals e))
+    (λ c κs. search needs)
     (λ c. search needs)
-    (λ c κs. let e = c .before .before .before .before .before .before in (is-root e, is-bass e, omega arith))
+    (λ c κs. let e = pairs (c .before) .before .before in (is-root e, is-bass e, omega arith))
     (λ c. search needs)
     (λ c κs. search needs)
     (λ c κs. let b = c .before .before .before in
     let a = b .before .before in
-    let s = a .before .before .before .before .before .before .before .before .before .before in
-    (a .arranged .ensures .0, a .before .before .before .if2 .left, omega (arith, b .put-bass .ensures .place, few-bass (s .args .chord .root) (s .args .chord .bass), b .put-bass .kept .0)))
+    let s = pairs a .before .before .before .before .before .before .before in
+    (tones a .0, pairs a .if2 .left, omega (arith, b .put-bass .ensures .place, few-bass (s .args .chord .root) (s .args .chord .bass), b .put-bass .kept .0)))
     (λ c. within (stands (c .before)))
     (λ c. counted (stands (c .before .before)))
     (λ c κs. search needs)
