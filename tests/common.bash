@@ -82,3 +82,12 @@ prepare_machine() { # gcc|g++; it sets `compiler` and `emulator`
     *) fail "no way known to run x86-64 programs on $(uname -m)" ;;
   esac
 }
+
+# The differential driver, at `program`.
+build_driver() { # [FILES AND WORDS...]
+  "${compiler[@]}" -std=c11 -O2 -Wall -Wextra -Werror -I include tests/differential/*.c "$@" "$archive" -o "$program"
+}
+
+driver() {
+  "${emulator[@]}" "$program" "$@"
+}
