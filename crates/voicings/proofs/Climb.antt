@@ -1,5 +1,6 @@
 -- A climb over the keys of a tone, from its lowest up by twelves: the next key is nearer to the wanted one exactly where that is beyond
 -- half the way to it, and from the first that is not, none is.
+--     passed, taken, past      which keys a climb has
 --     Climbing       a key is the best so far, with the steps that are left
 --     reached        some octaves up, each nearer than the one before, and the next not below the limit or not nearer: the best of all
 --     no-key         where the lowest is not below the limit there is none
@@ -44,19 +45,29 @@ known w key hw low h = by-order (decLt w key)
     by-order (yes k) = rw (under w key k) (omega arith)
     by-order (no k) = rw (over w key (omega arith)) (omega arith)
 
+module _ (limit : ℕ) where
+  -- a key below the range is passed, one in it is taken, and from its end on there is none
+  pub passed : (n key : ℕ) → key < 51 → keysFrom 51 limit (suc n) key ≡ keysFrom 51 limit n (key + 12)
+  unfolding keysFrom
+  passed n key h = rw (lt-leb 51 key h)
+
+  pub taken : (n key : ℕ) → 51 ≤ key → key < limit → keysFrom 51 limit (suc n) key ≡ key ∷ keysFrom 51 limit n (key + 12)
+  unfolding keysFrom
+  taken n key low h = rw (le-leb 51 key low, lt-ltb key limit h)
+
+  pub past : (n key : ℕ) → limit ≤ key → keysFrom 51 limit n key ≡ []
+  unfolding keysFrom
+  past zero key h = refl
+  past (suc n) key h = rw (le-ltb key limit h, and-false (leb 51 key)) (past n (key + 12) (omega arith))
+
 module _ (limit wanted interval : ℕ) where
   -- the best of what was found and of n steps from a key on
   abbrev pub bestFrom : Offer → ℕ → ℕ → Offer
   bestFrom found n key = best found (map (offer wanted interval) (keysFrom 51 limit n key))
 
-  past : (n key : ℕ) → limit ≤ key → keysFrom 51 limit n key ≡ []
-  unfolding keysFrom
-  past zero key h = refl
-  past (suc n) key h = rw (le-ltb key limit h, and-false (leb 51 key)) (past n (key + 12) (omega arith))
-
   nothing-past : (found : Offer) (n key : ℕ) → limit ≤ key → bestFrom found n key ≡ found
   unfolding best
-  nothing-past found n key h = ap (λ (l : List ℕ). best found (map (offer wanted interval) l)) (past n key h)
+  nothing-past found n key h = ap (λ (l : List ℕ). best found (map (offer wanted interval) l)) (past limit n key h)
 
   stays : (n key k : ℕ) → wanted ≤ key + 6 → key + 12 ≤ k → bestFrom (offer wanted interval key) n k ≡ offer wanted interval key
   unfolding best keysFrom
@@ -72,12 +83,11 @@ module _ (limit wanted interval : ℕ) where
 
   -- a key of the range is looked at, one below it is passed
   looks : (found : Offer) (n key : ℕ) → 51 ≤ key → key < limit → bestFrom found (suc n) key ≡ bestFrom (sooner found (offer wanted interval key)) n (key + 12)
-  unfolding best keysFrom
-  looks found n key low h = rw (le-leb 51 key low, lt-ltb key limit h)
+  unfolding best
+  looks found n key low h = rw (taken limit n key low h)
 
   passes : (found : Offer) (n key : ℕ) → key < 51 → bestFrom found (suc n) key ≡ bestFrom found n (key + 12)
-  unfolding keysFrom
-  passes found n key h = rw (lt-leb 51 key h)
+  passes found n key h = rw (passed limit n key h)
 
   record Climbing (class key : ℕ) : Type 0 where
     pub steps : ℕ

@@ -1,33 +1,38 @@
 -- Theorems on the definitions of the voicing.
---     two-or-three    "two or three keys, never none": a note class has so many in the range, by a test of the twelve
+--     two-or-three    "two or three keys, never none": a note class has so many in the range
 --     bars-one        a tone bars its successor's interval and no other
 use mathlib.Core.Path.{_≡_}
-use mathlib.Core.Bool.{Bool, true, not, cond, _&&_}
-use Prim.Native.Nat.{ℕ, _≤_, _<_}
-use lib.Dec.{T, eqb, leb, leb→le}
+use mathlib.Core.Bool.{true, not, cond, _&&_}
+use Prim.Native.Nat.{ℕ, _+_, _≤_, _<_}
+use native.Mathlib.Decide.{decLt}
+use native.Mathlib.Omega.{arith}
+use lib.Dec.{eqb}
 use lib.ListN.{length}
-use Rattle.answer.proofs.Tests.{left, right, all, at}
 use Rattle.chord.specs.Sets.{has}
 use Rattle.voicings.specs.declared.pool.Tone.{Tone}
 use Rattle.voicings.specs.Choice.{keysFrom, keysOf, without}
 use Rattle.voicings.specs.Lead.{rubs}
+use Rattle.voicings.proofs.Climb.{passed, taken, past}
 use Rattle.voicings.proofs.Kept.{without-has}
 
-abbrev keyCount : ℕ → ℕ
-keyCount class = length (keysOf 51 80 class)
+module _ (class : ℕ) (h : class < 12) where
+  -- the second key is in the range, and for the lower classes a third
+  with-third : class < 8 → length (keysFrom 51 80 17 (48 + class + 12)) ≡ 2
+  with-third low =
+      rw (taken 80 16 (48 + class + 12) (omega arith) (omega arith), taken 80 15 (48 + class + 12 + 12) (omega arith) (omega arith), past 80 15 (48 + class + 12 + 12 + 12) (omega arith))
 
-few : ℕ → Bool
-few class = leb 2 (keyCount class) && leb (keyCount class) 3
+  without-third : 8 ≤ class → length (keysFrom 51 80 17 (48 + class + 12)) ≡ 1
+  without-third high = rw (taken 80 16 (48 + class + 12) (omega arith) (omega arith), past 80 16 (48 + class + 12 + 12) (omega arith))
 
-all-few : T (all few 12)
-unfolding all few keysOf keysFrom
-all-few = tt
-
-pub two-or-three : (class : ℕ) → class < 12 → (2 ≤ length (keysOf 51 80 class)) × (length (keysOf 51 80 class) ≤ 3)
-unfolding few
-two-or-three class h =
-    let t = at few 12 all-few class h in
-    (leb→le 2 (keyCount class) (left (leb 2 (keyCount class)) _ t), leb→le (keyCount class) 3 (right (leb 2 (keyCount class)) _ t))
+  pub two-or-three : (2 ≤ length (keysOf 51 80 class)) × (length (keysOf 51 80 class) ≤ 3)
+  unfolding keysOf
+  two-or-three = by-order (decLt class 3) (decLt class 8)
+    where
+      by-order : Dec (class < 3) → Dec (class < 8) → (2 ≤ length (keysFrom 51 80 18 (48 + class))) × (length (keysFrom 51 80 18 (48 + class)) ≤ 3)
+      by-order (yes low) third = rw (passed 80 17 (48 + class) (omega arith), with-third (omega arith)) (omega arith, omega arith)
+      by-order (no low) (yes third) = rw (taken 80 17 (48 + class) (omega arith) (omega arith), with-third third) (omega arith, omega arith)
+      by-order (no low) (no third) =
+          rw (taken 80 17 (48 + class) (omega arith) (omega arith), without-third (omega arith)) (omega arith, omega arith)
 
 pub bars-one : (t next : Tone) (free k : ℕ) → rubs t next ≡ true → has (cond (rubs t next) (without (next .interval) free) free) k ≡ has free k && not (eqb k (next .interval))
 bars-one t next free k e = rw e (without-has (next .interval) free k)
