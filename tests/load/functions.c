@@ -38,7 +38,7 @@ const struct function functions[FUNCTIONS] = {
     {"quality", quality, 1, {SET}, .answers = {0, 12}, ANY_ANSWER, BIT(NOT_A_SET)},
     {"suffix", suffix, 1, {SET}, .writes = true, .answers = {0, HEMOTUSAP_SUFFIX_ROOM}, ANY_ANSWER,
      BIT(NOT_A_SET) | BIT(NO_ROOM)},
-    {"listing", listing, .input_count = 1, .highest = {255}, .writes = true,
+    {"listing", listing, .input_count = 1, .highest = {255}, .writes = true, .of_suffixes = true,
      .answers = {0, HEMOTUSAP_LISTING_ROOM}, EVEN_ANSWER, BIT(NO_ROOM)},
     {"tones", tones, 2, {CLASS, SET}, .writes = true, .answers = {1, HEMOTUSAP_TONES_ROOM},
      ANY_ANSWER, BIT(NOT_A_SET) | BIT(BAD_CLASS) | BIT(NO_ROOM)},

@@ -22,6 +22,7 @@ struct function {
     size_t input_count;
     uint8_t highest[MOST_RANGES]; /* of the bytes of an input that is good */
     bool writes;                  /* and then the answer is a count of bytes */
+    bool of_suffixes;             /* an input is a text that may be one */
     struct limits answers;
     unsigned modulus;   /* of an answer by this.. */
     unsigned most_left; /* ..no more than this is left */

@@ -66,7 +66,7 @@ static void take_inputs(struct source *from, struct made *made)
     const struct function *function = made->function;
     for (size_t at = 0; at < function->input_count; at++) {
         uint8_t *bytes = made->bytes[at];
-        bool suffix = function->answers.high == HEMOTUSAP_LISTING_ROOM && take(from, 1) % 2 == 0;
+        bool suffix = function->of_suffixes && take(from, 1) % 2 == 0;
         size_t length =
             suffix ? take_suffix(from, bytes) : take_bytes(from, function->highest[at], bytes);
         made->inputs[at] = (struct range){bytes, length};

@@ -13,6 +13,9 @@ pub struct Tone {
     pub interval: u8,
 }
 
+// The most tones of a pool.
+pub(crate) const MOST: usize = 16;
+
 // The first `count` of the tones are in the pool.
 pub struct Pool {
     pub tones: [Tone; 16],

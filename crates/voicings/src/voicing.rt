@@ -5,6 +5,7 @@ use crate::guides::put_tensions;
 use crate::lead::lead_key;
 use crate::lead::leave;
 use crate::order::arranged;
+use crate::pool::MOST;
 use crate::pool::Pool;
 use crate::pool::gathered;
 use crate::range::HIGHEST;
@@ -42,8 +43,6 @@ pub struct Chord {
 const LAST_NOTE: u8 = 11;
 
 const LAST_INTERVAL: u8 = 22;
-
-const MOST_PAIRS: usize = 16;
 
 // Two bass keys, sixteen guides, sixteen tensions and the lead.
 const ROOM: usize = 35;
@@ -136,7 +135,7 @@ pub fn voicing(chord: Chord, classes: &[u8], intervals: &[u8], out: &mut [u8]) -
         return Output::Refused(Refusal::BadClass);
     }
     let count = used(classes, intervals);
-    if count > MOST_PAIRS {
+    if count > MOST {
         return Output::Refused(Refusal::TooManyPairs);
     }
     if !are_pairs(classes, intervals, count) {
