@@ -6,9 +6,9 @@ use Prim.Native.Nat.{ℕ, zero, suc, _+_, _/_, _%_, _^_, _<_}
 use native.Mathlib.Nat.{add-assoc, add-comm, div-one, div-div-eq-div-mul, pow-succ'}
 use native.Mathlib.Omega.{arith}
 use lib.Count.{ones, onesIn}
-use Rattle.chord.specs.Sets.{has, countBelow, classCount}
-use Rattle.chord.proofs.FirstRule.{ones-in}
-use Rattle.chord.proofs.Members.{held, absent}
+use Rattle.intervals.specs.Sets.{has, countBelow, classCount}
+use Rattle.qualities.proofs.FirstRule.{ones-in}
+use Rattle.intervals.proofs.Members.{held, absent}
 
 -- the highest of so many digits, apart
 ones-top : (k s : ℕ) → onesIn (suc k) s ≡ onesIn k s + s / 2 ^ k % 2

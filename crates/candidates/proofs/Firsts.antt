@@ -16,9 +16,9 @@ use lib.Dec.{lit<}
 use lib.ListN.{length, take, drop, getD, set}
 use lib.Pow.{pow-lt, shl-exact}
 use lib.Seq.{drop-cons, drop-length, take-suc-set, length-take-le}
-use Rattle.chord.specs.Sets.{has}
+use Rattle.intervals.specs.Sets.{has}
 use Rattle.candidates.specs.Keys.{keyClass, withClass, gathered, classSet, fresh, firsts, Finds}
-use Rattle.chord.proofs.Members.{joined-less, joined-ones}
+use Rattle.intervals.proofs.Members.{joined-less, joined-ones}
 
 pub record Finding (keys : List ℕ) (i : ℕ) (order : List ℕ) (s count : ℕ) : Type 0 where
   pub left : gathered s (drop i keys) ≡ classSet keys

@@ -17,9 +17,9 @@ use lib.Dec.{eqb, lit<}
 use lib.ListN.{length, getD}
 use lib.Pow.{pow-lt}
 use borrow.Author.Tests.{eq-eqb, eqb-true}
-use Rattle.chord.specs.Sets.{has}
+use Rattle.intervals.specs.Sets.{has}
 use Rattle.candidates.specs.Keys.{keyClass, gathered, classSet, fresh, firsts, isHeard}
-use Rattle.chord.proofs.Members.{joined-less, joined-ones, joined-has}
+use Rattle.intervals.proofs.Members.{joined-less, joined-ones, joined-has}
 use Rattle.candidates.proofs.Firsts.{gathered-old, gathered-new, fresh-old, fresh-new}
 
 -- a class that is in the set already adds nothing

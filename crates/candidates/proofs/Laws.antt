@@ -10,10 +10,10 @@ use lib.ListN.{length}
 use Rattle.answer.specs.Words.{bytes}
 use Rattle.answer.specs.Lines.{lineFeeds}
 use Rattle.answer.proofs.Feeds.{feeds-append}
-use Rattle.chord.specs.Sets.{has, classCount}
+use Rattle.intervals.specs.Sets.{has, classCount}
 use Rattle.inference.specs.Names.{nameOf, flats}
-use Rattle.inference.specs.Suffix.{suffixOf}
-use Rattle.inference.proofs.Short.{suffix-line}
+use Rattle.rules.specs.Suffix.{suffixOf}
+use Rattle.rules.proofs.Short.{suffix-line}
 use Rattle.candidates.specs.Keys.{seenFrom, classSet, firsts}
 use Rattle.candidates.specs.Candidates.{Classes, chord, over, line, lines, listing, candidatesOf}
 use Rattle.candidates.proofs.Counted.{class-count}

@@ -17,11 +17,11 @@ use lib.ListN.{length, take, drop, getD, length-append, take-append-drop}
 use lib.Seq.{drop-cons, drop-length, length-take-le}
 use borrow.Rule.Slice.PartMut.{putMid}
 use Rattle.answer.specs.Words.{bytes}
-use Rattle.chord.specs.Sets.{has}
+use Rattle.intervals.specs.Sets.{has}
 use Rattle.answer.specs.Written.{Writes}
 use Rattle.inference.specs.Names.{nameOf, flats}
-use Rattle.inference.specs.Suffix.{suffixOf}
-use Rattle.inference.proofs.Short.{suffix-short}
+use Rattle.rules.specs.Suffix.{suffixOf}
+use Rattle.rules.proofs.Short.{suffix-short}
 use Rattle.candidates.specs.Keys.{seenFrom, classSet, firsts}
 use Rattle.candidates.specs.Candidates.{Classes, chord, over, line, lines, listing, candidatesOf}
 use Rattle.candidates.proofs.Heard.{firsts-heard, firsts-less, firsts-few}

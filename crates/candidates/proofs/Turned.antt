@@ -10,9 +10,9 @@ use native.Mathlib.Numerals.{add-one}
 use native.Mathlib.Omega.{arith}
 use lib.Dec.{lit<}
 use lib.Pow.{shl-exact, pow-pos}
-use Rattle.chord.specs.Sets.{has}
+use Rattle.intervals.specs.Sets.{has}
 use Rattle.candidates.specs.Keys.{seenBelow, seenFrom}
-use Rattle.chord.proofs.Members.{held, absent}
+use Rattle.intervals.proofs.Members.{held, absent}
 
 -- a class's digit, moved to its new place
 digit : (s j k : ℕ) → s / 2 ^ j % 2 * 2 ^ k ≡ cond (has s j) (2 ^ k) 0

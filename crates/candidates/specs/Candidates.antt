@@ -12,9 +12,9 @@ use mathlib.Core.List.{List, [], _∷_, _++_}
 use Prim.Native.Nat.{ℕ, _<_}
 use lib.ListN.{length, getD}
 use Rattle.answer.specs.Words.{bytes}
-use Rattle.chord.specs.Sets.{has}
+use Rattle.intervals.specs.Sets.{has}
 use Rattle.inference.specs.Names.{nameOf}
-use Rattle.inference.specs.Suffix.{suffixOf}
+use Rattle.rules.specs.Suffix.{suffixOf}
 use Rattle.candidates.specs.Keys.{seenFrom, classSet, firsts}
 
 unfoldable pub chord : List (List ℕ) → ℕ → ℕ → List ℕ

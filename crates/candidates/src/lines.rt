@@ -12,10 +12,10 @@ ghost use mathlib.Core.List.{[], _++_};
 ghost use Prim.Native.Nat.{_+_, _%_, _<_, _≤_};
 ghost use lib.ListN.{length, take};
 ghost use Rattle.answer.specs.Replies.{text, outputOf, roomAfter};
-ghost use Rattle.chord.specs.Sets.{has, classCount};
+ghost use Rattle.intervals.specs.Sets.{has, classCount};
 ghost use Rattle.answer.specs.Written.{Writes};
 ghost use Rattle.inference.specs.Names.{nameOf, flats};
-ghost use Rattle.inference.specs.Suffix.{suffixOf};
+ghost use Rattle.rules.specs.Suffix.{suffixOf};
 ghost use Rattle.candidates.specs.Keys.{seenFrom, classSet};
 ghost use Rattle.candidates.specs.Candidates.{Classes, chord, over, line, listing, candidatesOf};
 

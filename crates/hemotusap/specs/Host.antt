@@ -14,13 +14,13 @@ use Rattle.answer.specs.Refusals.{numberOf}
 use Rattle.answer.specs.declared.refusal.Refusal.{Refusal}
 use Rattle.answer.specs.declared.output.Output.{Output}
 use Rattle.answer.specs.declared.output.Output.the-variants as Output
-use Rattle.chord.specs.Notes.{countOf}
-use Rattle.chord.specs.Qualities as Qualities
-use Rattle.chord.specs.declared.note.Note.{Note}
-use Rattle.chord.specs.declared.note.NoteAnswer.{NoteAnswer}
-use Rattle.chord.specs.declared.note.NoteAnswer.the-variants as Moved
-use Rattle.chord.specs.declared.quality.QualityAnswer.{QualityAnswer}
-use Rattle.chord.specs.declared.quality.QualityAnswer.the-variants as Quality
+use Rattle.notes.specs.Notes.{countOf}
+use Rattle.qualities.specs.Qualities as Qualities
+use Rattle.notes.specs.declared.note.Note.{Note}
+use Rattle.notes.specs.declared.note.NoteAnswer.{NoteAnswer}
+use Rattle.notes.specs.declared.note.NoteAnswer.the-variants as Moved
+use Rattle.qualities.specs.declared.quality.QualityAnswer.{QualityAnswer}
+use Rattle.qualities.specs.declared.quality.QualityAnswer.the-variants as Quality
 use Rattle.voicings.specs.declared.voicing.Bass.{Bass}
 use Rattle.voicings.specs.declared.voicing.Bass.the-variants as Bass
 use Rattle.voicings.specs.declared.voicing.Lead.{Lead}

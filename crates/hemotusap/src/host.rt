@@ -1,10 +1,10 @@
 // The library's answers as the numbers that a host gets: at or above 0 for an answer, minus its number for a refusal.
 use answer::output::Output;
 use answer::refusal::Refusal;
-use chord::note::Accidental;
-use chord::note::Note;
-use chord::note::NoteAnswer;
-use chord::quality::QualityAnswer;
+use notes::note::Accidental;
+use notes::note::Note;
+use notes::note::NoteAnswer;
+use qualities::quality::QualityAnswer;
 ghost use mathlib.Core.Path.{_≡_};
 ghost use Rattle.hemotusap.specs.Host.{Fits, refusalNumber, outputNumber, qualityNumber, noteNumber, noteAnswerNumber};
 

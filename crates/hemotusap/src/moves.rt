@@ -1,8 +1,8 @@
 // Note moves for the host.
 use crate::host::moved;
-use chord::note::Note;
+use notes::note::Note;
 ghost use mathlib.Core.Path.{_≡_};
-ghost use Rattle.chord.specs.Notes.{noteOf, getNoteAnswer, transposeAnswer};
+ghost use Rattle.notes.specs.Notes.{noteOf, getNoteAnswer, transposeAnswer};
 ghost use Rattle.hemotusap.specs.Host.{noteAnswerNumber};
 
 #[no_mangle]

@@ -1,13 +1,13 @@
 // Qualities and texts for the host.
 use crate::host::quality_number;
 use crate::host::written;
-use chord::note::Note;
-use chord::quality::quality;
+use notes::note::Note;
+use qualities::quality::quality;
 ghost use mathlib.Core.Path.{_≡_};
 ghost use Rattle.answer.specs.Replies.{outputOf, roomAfter};
-ghost use Rattle.chord.specs.Notes.{noteOf};
-ghost use Rattle.chord.specs.NoteText.{signs, noteReply};
-ghost use Rattle.chord.specs.Qualities.{qualityAnswer};
+ghost use Rattle.notes.specs.Notes.{noteOf};
+ghost use Rattle.notes.specs.NoteText.{signs, noteReply};
+ghost use Rattle.qualities.specs.Qualities.{qualityAnswer};
 ghost use Rattle.hemotusap.specs.Host.{outputNumber, qualityNumber};
 
 #[no_mangle]

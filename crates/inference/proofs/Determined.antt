@@ -3,7 +3,7 @@
 use denote.Ref.{now}
 use Rattle.answer.proofs.Determined.{Decides, DecidesWith, determined, both}
 use Rattle.inference.proofs.tables.class_name.Reads as class-name
-use Rattle.inference.proofs.intervals.intervals.Reads as intervals
+use Rattle.inference.proofs.classes.intervals.Reads as intervals
 use Rattle.inference.proofs.normalize.suffix.Reads as suffix
 
 pub class-name-decides : Decides class-name.Post

@@ -16,11 +16,11 @@ use lib.ListN.{length}
 use lib.Pow.{pow-pos}
 use borrow.Author.Tests.{eq-eqb, ne-eqb}
 use Rattle.answer.proofs.Tests.{left, right}
-use Rattle.chord.specs.Sets.{has}
-use Rattle.chord.specs.Intervals.{intervals, nth, numbered, numberOf}
-use Rattle.chord.specs.declared.interval.Interval.{Interval}
-use Rattle.chord.specs.declared.interval.Numbered.the-variants.{Is}
-use Rattle.inference.specs.Intervals.{keep, intervalsIn}
+use Rattle.intervals.specs.Sets.{has}
+use Rattle.intervals.specs.Intervals.{intervals, nth, numbered, numberOf}
+use Rattle.intervals.specs.declared.interval.Interval.{Interval}
+use Rattle.intervals.specs.declared.interval.Numbered.the-variants.{Is}
+use Rattle.rules.specs.Classes.{keep, intervalsIn}
 
 -- the members of a list at whose places a number has a bit
 marked : List Interval → ℕ → List Interval

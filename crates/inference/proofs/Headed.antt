@@ -6,13 +6,13 @@ use mathlib.Core.Bool.{Bool, true, false, cond, not}
 use mathlib.Core.List.{[], _++_}
 use lib.Dec.{eqb}
 use Rattle.answer.specs.Words.{bytes}
-use Rattle.chord.specs.declared.interval.Interval.the-variants.{Ninth}
-use Rattle.chord.specs.Intervals.{setOf}
-use Rattle.chord.specs.declared.interval.Numbered.{Numbered}
-use Rattle.inference.specs.Intervals.{only, intervalsOf}
-use Rattle.inference.specs.Parts.{isSus}
-use Rattle.inference.specs.Stack.{modifierOf, addsOf}
-use Rattle.inference.specs.Heading.{wording, modified, nine, heading, sus}
+use Rattle.intervals.specs.declared.interval.Interval.the-variants.{Ninth}
+use Rattle.intervals.specs.Intervals.{setOf}
+use Rattle.intervals.specs.declared.interval.Numbered.{Numbered}
+use Rattle.rules.specs.Classes.{only, intervalsOf}
+use Rattle.rules.specs.Parts.{isSus}
+use Rattle.rules.specs.Stack.{modifierOf, addsOf}
+use Rattle.rules.specs.Heading.{wording, modified, nine, heading, sus}
 use Rattle.inference.specs.Held.{Reads}
 use Rattle.inference.specs.declared.reading.Reading.{Reading}
 

@@ -13,7 +13,7 @@ use lib.Dec.{eqb}
 use lib.ListN.{length, length-append}
 use borrow.Author.Tests.{eq-eqb, ne-eqb}
 use Rattle.answer.specs.Words.{bytes, packed, placeAfter, putAt}
-use Rattle.inference.specs.Suffix.{listed, close, parenthesized}
+use Rattle.rules.specs.Suffix.{listed, close, parenthesized}
 use Rattle.answer.specs.Written.{Writes}
 use Rattle.answer.proofs.Writing.{nothing, also, put-short}
 use Rattle.inference.proofs.Texts.{closing-short}

@@ -1,27 +1,53 @@
 -- The rules for a reading: what its methods compute, from what the functions that they call tell, is what the paper says.
-use mathlib.Core.Path.{_≡_, ap, _∙_}
-use mathlib.Core.Bool.{Bool}
+use mathlib.Core.Path.{_≡_, refl, ap, ap₂, _∙_}
+use mathlib.Core.Bool.{Bool, true, false, cond, not, _||_}
 use mathlib.Core.List.{List, [], map, _++_, append-assoc}
 use Prim.Native.Nat.{ℕ, _^_, _<_}
 use lib.Bits.{bitAnd, bitOr, bitXor, xor-lt}
+use lib.Dec.{eqb}
 use Rattle.answer.specs.Words.{bytes}
-use Rattle.chord.specs.Sets.{bits}
-use Rattle.chord.specs.Intervals.{numericOf, setOf}
-use Rattle.chord.specs.Masks.{ownBits, alterationBits, extensionBits, stackBits}
-use Rattle.chord.specs.declared.interval.Interval.the-variants.{Ninth}
-use Rattle.chord.specs.declared.interval.Numbered.{Numbered}
-use Rattle.inference.specs.Intervals.{only, intervalsIn, intervalsOf}
-use Rattle.inference.specs.Parts.{suffixQuality, isSus, alterationsOf, extensionsOf, lastAdd, omitThird, omitFifth}
-use Rattle.inference.specs.Stack.{ownSeventh, isDiminished, modifierOf, addsOf}
-use Rattle.inference.specs.Heading.{isSixth, nine}
-use Rattle.inference.specs.Suffix.{worded, addParts, parts}
-use Rattle.inference.specs.Held.{Reads, unstackedOf, carriedText, addsWritten}
+use Rattle.intervals.specs.Sets.{bits}
+use Rattle.intervals.specs.Intervals.{numericOf, setOf}
+use Rattle.qualities.specs.Masks.{ownBits, alterationBits, extensionBits, stackBits}
+use Rattle.intervals.specs.declared.interval.Interval.the-variants.{Ninth}
+use Rattle.intervals.specs.declared.interval.Numbered.{Numbered}
+use Rattle.rules.specs.Classes.{only, intervalsIn, intervalsOf}
+use Rattle.rules.specs.Parts.{suffixQuality, isSus, alterationsOf, extensionsOf, lastAdd, omitThird, omitFifth}
+use Rattle.rules.specs.Stack.{ownSeventh, isDiminished, unstackedOf, modifierOf, addsOf}
+use Rattle.rules.specs.Heading.{isSixth, nine}
+use Rattle.rules.specs.Suffix.{worded, addParts, parts}
+use Rattle.inference.specs.Held.{Reads, addsWritten}
+use Rattle.inference.specs.Carried.{carriedText}
 use Rattle.inference.specs.declared.reading.Reading.{Reading}
 use Rattle.inference.specs.declared.reading.Adds.{Adds}
-use Rattle.inference.proofs.Agree.{test}
-use Rattle.inference.proofs.Read.{alterations, extensionsFrom, extensions, unstackedFrom, unstacked}
-use Rattle.inference.proofs.Added.{modifierFrom, modifier, addsFrom, adds, nineFrom, nine-behind, lastFrom, last-add, addsMade, written-adds}
-use Rattle.inference.proofs.Parted.{omit-fifth, omits, alterations-listed, omits-listed, alterations-small, adds-small, only-small}
+use Rattle.inference.specs.declared.wording.Carried.{Carried}
+use Rattle.inference.specs.declared.wording.Carried.the-variants as Carries
+use Rattle.rules.proofs.Agree.{test}
+use Rattle.rules.proofs.Read.{alterations, extensions, unstacked}
+use Rattle.rules.proofs.Tested.{extensionsFrom, unstackedFrom}
+use Rattle.rules.proofs.Added.{modifier, adds, nine-behind, last-add, written-adds}
+use Rattle.rules.proofs.Tested.{modifierFrom, addsFrom, nineFrom, lastFrom, addWhere, addsFound}
+use Rattle.rules.proofs.Parted.{omit-fifth, omits, alterations-listed, omits-listed, alterations-small, adds-small, only-small}
+
+abbrev pub carriedWhere : Bool → Carried
+carriedWhere carries = cond carries Carries.Add Carries.Nothing
+
+abbrev pub addsMade : ℕ → ℕ → ℕ → Adds
+addsMade adds nine last =
+    record {
+      shown = bitXor adds nine;
+      first = carriedWhere (eqb nine 0 || not (eqb (bitAnd adds 16384) 0));
+      last = last;
+      then = carriedWhere (eqb adds 0);
+    }
+
+carried-where : (b : Bool) → carriedText (carriedWhere b) ≡ addWhere b
+carried-where true = refl
+carried-where false = refl
+
+adds-made : (a n l : ℕ) → addsWritten (addsMade a n l) ≡ addsFound a n l
+adds-made a n l =
+    ap₂ (λ (x y : List ℕ). worded x (intervalsIn (bitXor a n)) ++ worded y (intervalsIn l)) (carried-where (eqb n 0 || not (eqb (bitAnd a 16384) 0))) (carried-where (eqb a 0))
 
 module _ (r : Reading) (h : Reads r) where
   pub alterations-told : (mask : ℕ) → mask ≡ alterationBits (r .quality)
@@ -57,7 +83,7 @@ module _ (r : Reading) (h : Reads r) where
   pub written-told : (a n l : ℕ) → a ≡ setOf (addsOf (r .quality) (intervalsOf (r .set)))
       → n ≡ setOf (only (nine (r .quality) (addsOf (r .quality) (intervalsOf (r .set)))) Ninth) → l ≡ setOf (lastAdd (r .set))
       → addsWritten (addsMade a n l) ≡ addParts (r .quality) (bytes "add") (addsOf (r .quality) (intervalsOf (r .set)) ++ lastAdd (r .set))
-  written-told a n l ha hn hl = rw (ha, hn, hl, h .quality) (written-adds (r .set) (h .small) (h .rooted))
+  written-told a n l ha hn hl = adds-made a n l ∙ rw (ha, hn, hl, h .quality) (written-adds (r .set) (h .small) (h .rooted))
 
   pub omit-fifth-told : (n : ℕ) → n ≡ test (bitAnd (r .intervals) 2098048) 0 256 0 → n ≡ setOf (omitFifth (r .set))
   omit-fifth-told n hn = rw (hn, h .intervals) (omit-fifth (r .set) (h .small) (h .rooted))

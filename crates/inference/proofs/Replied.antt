@@ -13,9 +13,9 @@ use Rattle.answer.specs.declared.refusal.Refusal.the-variants.{NotASet}
 use Rattle.answer.specs.declared.output.Output.{Output}
 use Rattle.answer.specs.declared.output.Output.the-variants.{Written}
 use Rattle.answer.proofs.Rooms.{written}
-use Rattle.chord.specs.Sets.{isRooted}
-use Rattle.chord.proofs.Rooted.{is-rooted}
-use Rattle.inference.specs.Suffix.{suffixOf, suffixReply}
+use Rattle.intervals.specs.Sets.{isRooted}
+use Rattle.intervals.proofs.Rooted.{is-rooted}
+use Rattle.rules.specs.Suffix.{suffixOf, suffixReply}
 
 module _ (s : ℕ) where
   pub not-rooted : isRooted s ≡ false → suffixReply s ≡ refuse NotASet

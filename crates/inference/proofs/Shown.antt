@@ -6,12 +6,12 @@ use Prim.Native.Nat.{ℕ, _<_}
 use native.Mathlib.Omega.{arith}
 use borrow.Author.Tests.{le-leb}
 use Rattle.answer.specs.declared.refusal.Refusal.{Refusal}
-use Rattle.chord.specs.Sets.{isSet}
-use Rattle.chord.specs.Qualities.{qualityOf, qualityAnswer}
-use Rattle.chord.specs.declared.quality.ChordQuality.{ChordQuality}
-use Rattle.chord.specs.declared.quality.QualityAnswer.{QualityAnswer}
-use Rattle.chord.specs.declared.quality.QualityAnswer.the-variants.{Is, Refused}
-use Rattle.inference.specs.Parts.{withThird, suffixQuality}
+use Rattle.intervals.specs.Sets.{isSet}
+use Rattle.qualities.specs.Qualities.{qualityOf, qualityAnswer}
+use Rattle.qualities.specs.declared.quality.ChordQuality.{ChordQuality}
+use Rattle.qualities.specs.declared.quality.QualityAnswer.{QualityAnswer}
+use Rattle.qualities.specs.declared.quality.QualityAnswer.the-variants.{Is, Refused}
+use Rattle.rules.specs.Parts.{withThird, suffixQuality}
 
 has-quality : (x : ℕ) → x < 4096 → qualityAnswer x ≡ Is (qualityOf x)
 unfolding isSet qualityAnswer

@@ -4,17 +4,17 @@ use mathlib.Core.List.{[]}
 use lib.Dec.{T}
 use Rattle.answer.specs.Words.{bytes}
 use Rattle.answer.proofs.Digits.{areBytes, isShort}
-use Rattle.chord.specs.Intervals.{notationOf}
-use Rattle.chord.specs.declared.interval.Interval.{Interval}
-use Rattle.chord.specs.declared.interval.Interval.the-variants.{Unison, MinorSecond, MajorSecond, MinorThird, MajorThird, PerfectFourth, AugmentedFourth, DiminishedFifth, PerfectFifth, AugmentedFifth, MinorSixth, MajorSixth, DiminishedSeventh, MinorSeventh, MajorSeventh, Octave, FlatNinth, Ninth, SharpNinth, Eleventh, SharpEleventh, FlatThirteenth, Thirteenth}
-use Rattle.chord.specs.declared.interval.Numbered.{Numbered}
-use Rattle.chord.specs.declared.interval.Numbered.the-variants.{Is, Nothing}
-use Rattle.chord.specs.declared.quality.ChordQuality.{ChordQuality}
-use Rattle.chord.specs.declared.quality.ChordQuality.the-variants.{Maj, Maj6, Maj7, Dominant7, Mi, Mi6, Mi7, MiMaj7, Augmented, Diminished, Diminished7, Power, Bass}
-use Rattle.inference.specs.Heading.{wording, modified}
+use Rattle.intervals.specs.Intervals.{notationOf}
+use Rattle.intervals.specs.declared.interval.Interval.{Interval}
+use Rattle.intervals.specs.declared.interval.Interval.the-variants.{Unison, MinorSecond, MajorSecond, MinorThird, MajorThird, PerfectFourth, AugmentedFourth, DiminishedFifth, PerfectFifth, AugmentedFifth, MinorSixth, MajorSixth, DiminishedSeventh, MinorSeventh, MajorSeventh, Octave, FlatNinth, Ninth, SharpNinth, Eleventh, SharpEleventh, FlatThirteenth, Thirteenth}
+use Rattle.intervals.specs.declared.interval.Numbered.{Numbered}
+use Rattle.intervals.specs.declared.interval.Numbered.the-variants.{Is, Nothing}
+use Rattle.qualities.specs.declared.quality.ChordQuality.{ChordQuality}
+use Rattle.qualities.specs.declared.quality.ChordQuality.the-variants.{Maj, Maj6, Maj7, Dominant7, Mi, Mi6, Mi7, MiMaj7, Augmented, Diminished, Diminished7, Power, Bass}
+use Rattle.rules.specs.Heading.{wording, modified}
 use Rattle.inference.specs.declared.wording.Carried.{Carried}
 use Rattle.inference.specs.declared.wording.Carried.the-variants as Carries
-use Rattle.inference.specs.Held.{carriedText}
+use Rattle.inference.specs.Carried.{carriedText}
 
 pub notation-short : (i : Interval) → T (isShort (notationOf i))
 unfolding bytes areBytes isShort

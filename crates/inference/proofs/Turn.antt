@@ -13,11 +13,11 @@ use lib.Dec.{eqb}
 use lib.ListN.{length, length-append}
 use borrow.Author.Tests.{ne-eqb}
 use Rattle.answer.specs.Words.{bytes}
-use Rattle.chord.specs.Intervals.{numbered}
-use Rattle.inference.specs.Intervals.{intervalsIn}
-use Rattle.inference.specs.Suffix.{worded, listed}
+use Rattle.intervals.specs.Intervals.{numbered}
+use Rattle.rules.specs.Classes.{intervalsIn}
+use Rattle.rules.specs.Suffix.{worded, listed}
 use Rattle.answer.specs.Written.{Writes}
-use Rattle.inference.specs.Held.{carriedText, part}
+use Rattle.inference.specs.Carried.{carriedText, part}
 use Rattle.inference.specs.declared.wording.Carried.{Carried}
 use Rattle.inference.specs.declared.wording.Carried.the-variants as Carries
 use Rattle.inference.proofs.First.{First, lowest-of, bit, none-in}

@@ -1,7 +1,3 @@
 pub mod Names
-pub mod Intervals
-pub mod Parts
-pub mod Stack
-pub mod Heading
-pub mod Suffix
+pub mod Carried
 pub mod Held

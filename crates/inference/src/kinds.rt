@@ -1,11 +1,11 @@
 // Kinds of quality that the suffix treats apart.
-use chord::quality::ChordQuality;
+use qualities::quality::ChordQuality;
 ghost use mathlib.Core.Path.{_≡_};
 ghost use mathlib.Core.List.{map};
-ghost use Rattle.chord.specs.Sets.{bits};
-ghost use Rattle.chord.specs.Intervals.{numericOf};
-ghost use Rattle.inference.specs.Stack.{isDiminished, ownSeventh};
-ghost use Rattle.inference.specs.Heading.{isSixth};
+ghost use Rattle.intervals.specs.Sets.{bits};
+ghost use Rattle.intervals.specs.Intervals.{numericOf};
+ghost use Rattle.rules.specs.Stack.{isDiminished, ownSeventh};
+ghost use Rattle.rules.specs.Heading.{isSixth};
 
 pub(crate) const DEGREE_7: u32 = 1 << 7;
 

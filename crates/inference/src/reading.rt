@@ -1,43 +1,43 @@
 // A rooted set read as a chord: its intervals, the quality that it shows, and what of it a suffix names, as in the Rust's
 // `inference/normalize.rs`. Sets of classes, of intervals and of degrees are numbers, a bit for each member.
-use crate::intervals::CLASS_3;
-use crate::intervals::CLASS_4;
-use crate::intervals::CLASS_5;
-use crate::intervals::CLASS_9;
+use crate::classes::CLASS_3;
+use crate::classes::CLASS_4;
+use crate::classes::CLASS_5;
+use crate::classes::CLASS_9;
 use crate::kinds::DEGREE_7;
 use crate::kinds::is_diminished;
 use crate::kinds::is_sixth;
 use crate::kinds::own_seventh;
 use crate::wording::Carried;
-use chord::interval::AUGMENTED_FIFTH;
-use chord::interval::DIMINISHED_FIFTH;
-use chord::interval::ELEVENTH;
-use chord::interval::FLAT_NINTH;
-use chord::interval::FLAT_THIRTEENTH;
-use chord::interval::Interval;
-use chord::interval::MAJOR_SEVENTH;
-use chord::interval::MAJOR_SIXTH;
-use chord::interval::MAJOR_THIRD;
-use chord::interval::MINOR_THIRD;
-use chord::interval::NINTH;
-use chord::interval::Numbered;
-use chord::interval::PERFECT_FIFTH;
-use chord::interval::SHARP_ELEVENTH;
-use chord::interval::SHARP_NINTH;
-use chord::interval::THIRTEENTH;
-use chord::quality::ChordQuality;
-use chord::quality::QualityAnswer;
+use intervals::interval::AUGMENTED_FIFTH;
+use intervals::interval::DIMINISHED_FIFTH;
+use intervals::interval::ELEVENTH;
+use intervals::interval::FLAT_NINTH;
+use intervals::interval::FLAT_THIRTEENTH;
+use intervals::interval::Interval;
+use intervals::interval::MAJOR_SEVENTH;
+use intervals::interval::MAJOR_SIXTH;
+use intervals::interval::MAJOR_THIRD;
+use intervals::interval::MINOR_THIRD;
+use intervals::interval::NINTH;
+use intervals::interval::Numbered;
+use intervals::interval::PERFECT_FIFTH;
+use intervals::interval::SHARP_ELEVENTH;
+use intervals::interval::SHARP_NINTH;
+use intervals::interval::THIRTEENTH;
+use qualities::quality::ChordQuality;
+use qualities::quality::QualityAnswer;
 ghost use mathlib.Core.Path.{_≡_};
 ghost use mathlib.Core.Bool.{cond};
 ghost use mathlib.Core.List.{_++_};
 ghost use Prim.Native.Nat.{_<_, _%_, _^_};
 ghost use Rattle.answer.specs.Words.{bytes};
-ghost use Rattle.chord.specs.Intervals.{setOf};
-ghost use Rattle.chord.specs.declared.interval.Interval.the-variants.{Ninth};
-ghost use Rattle.inference.specs.Intervals.{only, intervalsOf};
-ghost use Rattle.inference.specs.Parts.{withThird, suffixQuality, isSus, lastAdd, omitThird, omitFifth};
-ghost use Rattle.inference.specs.Heading.{nine};
-ghost use Rattle.inference.specs.Suffix.{addParts};
+ghost use Rattle.intervals.specs.Intervals.{setOf};
+ghost use Rattle.intervals.specs.declared.interval.Interval.the-variants.{Ninth};
+ghost use Rattle.rules.specs.Classes.{only, intervalsOf};
+ghost use Rattle.rules.specs.Parts.{withThird, suffixQuality, isSus, lastAdd, omitThird, omitFifth};
+ghost use Rattle.rules.specs.Heading.{nine};
+ghost use Rattle.rules.specs.Suffix.{addParts};
 ghost use Rattle.inference.specs.Held.{Reads, alterationSet, extensionSet, unstackedSet, addsRead, addSet, modifierRead, addsWritten};
 
 const THIRDS: u32 = MINOR_THIRD | MAJOR_THIRD;
@@ -70,7 +70,7 @@ pub(crate) fn read(set: u32) -> Reading
     requires { ⌜ (set < 4096) × (set % 2 ≡ 1) ⌝ }
     ensures { λ r. ⌜ (r .set ≡ set) × Reads r ⌝ }
 {
-    let intervals = crate::intervals::intervals(set);
+    let intervals = crate::classes::intervals(set);
     Reading {
         set,
         intervals,
@@ -82,7 +82,7 @@ fn shown_quality(set: u32, intervals: u32) -> ChordQuality
     requires { ⌜ (set < 4096) × (set % 2 ≡ 1) × (intervals ≡ setOf (intervalsOf set)) ⌝ }
     ensures { λ r. ⌜ r ≡ suffixQuality set ⌝ }
 {
-    match chord::quality::quality(with_third(set, intervals)) {
+    match qualities::quality::quality(with_third(set, intervals)) {
         QualityAnswer::Is(quality) => quality,
         QualityAnswer::Refused(_) => ChordQuality::Maj,
     }

@@ -1,12 +1,12 @@
 // The texts that a suffix is made of, as words (`answer::word`).
-use chord::interval::Numbered;
-use chord::quality::ChordQuality;
+use intervals::interval::Numbered;
+use qualities::quality::ChordQuality;
 ghost use mathlib.Core.Path.{_≡_};
 ghost use mathlib.Core.Bool.{cond};
 ghost use mathlib.Core.List.{[]};
 ghost use Rattle.answer.specs.Words.{bytes, packed};
-ghost use Rattle.inference.specs.Heading.{wording, modified, orElse};
-ghost use Rattle.inference.specs.Held.{carriedText};
+ghost use Rattle.rules.specs.Heading.{wording, modified, orElse};
+ghost use Rattle.inference.specs.Carried.{carriedText};
 
 const NOTHING: u64 = 0;
 

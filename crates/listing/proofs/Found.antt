@@ -16,7 +16,7 @@ use lib.Seq.{sets, length-take-le}
 use Rattle.answer.specs.Words.{same}
 use Rattle.answer.specs.Written.{Writes}
 use Rattle.answer.proofs.Writing.{stored}
-use Rattle.inference.specs.Suffix.{suffixOf}
+use Rattle.rules.specs.Suffix.{suffixOf}
 use Rattle.listing.specs.Listing.{matching, setsOf, inBytes, listingOf}
 
 -- those of the sets from the one at i on

@@ -19,9 +19,9 @@ use lib.ListN.{length}
 use borrow.Author.Tests.{eq-eqb, eqb-true, lt-ltb}
 use Rattle.answer.specs.Words.{same}
 use Rattle.answer.proofs.Tests.{said, same→eq, eq→same}
-use Rattle.chord.specs.Sets.{isIn}
-use Rattle.inference.specs.Suffix.{suffixOf, reached}
-use Rattle.inference.proofs.Short.{suffix-reached}
+use Rattle.intervals.specs.Sets.{isIn}
+use Rattle.rules.specs.Suffix.{suffixOf, reached}
+use Rattle.rules.proofs.Short.{suffix-reached}
 use Rattle.listing.specs.Listing.{matching, setsOf, inBytes, listingOf}
 use Rattle.listing.specs.Members.{isAbove, isRising}
 

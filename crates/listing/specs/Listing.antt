@@ -8,7 +8,7 @@ use mathlib.Core.Bool.{cond}
 use mathlib.Core.List.{List, [], _∷_}
 use Prim.Native.Nat.{ℕ, zero, suc, _+_, _/_, _%_}
 use Rattle.answer.specs.Words.{same}
-use Rattle.inference.specs.Suffix.{suffixOf}
+use Rattle.rules.specs.Suffix.{suffixOf}
 
 unfoldable pub matching : List ℕ → ℕ → ℕ → List ℕ
 matching t zero s = []

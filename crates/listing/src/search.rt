@@ -9,7 +9,7 @@ ghost use lib.ListN.{length};
 ghost use Rattle.answer.specs.Replies.{text, outputOf, roomAfter};
 ghost use Rattle.answer.specs.Words.{same};
 ghost use Rattle.answer.specs.Written.{Writes};
-ghost use Rattle.inference.specs.Suffix.{suffixOf};
+ghost use Rattle.rules.specs.Suffix.{suffixOf};
 ghost use Rattle.listing.specs.Listing.{listingOf};
 
 // The rooted sets.

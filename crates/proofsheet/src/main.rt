@@ -1,10 +1,10 @@
 // The engraver's proof sheet, row by row, as the library answers it. Crate `sheet` proves the first twelve rows.
 use answer::output::Output;
 use answer::refusal::Refusal;
-use chord::note::Note;
-use chord::note::NoteAnswer;
-use chord::quality::QualityAnswer;
-use chord::quality::quality;
+use notes::note::Note;
+use notes::note::NoteAnswer;
+use qualities::quality::QualityAnswer;
+use qualities::quality::quality;
 use inference::normalize::suffix;
 use libc::STDOUT_FILENO;
 use listing::search::listing;

@@ -10,22 +10,22 @@ use lib.ListN.{getD}
 use Rattle.answer.specs.Words.{bytes, same}
 use Rattle.answer.specs.Replies.{text}
 use Rattle.answer.proofs.Tests.{left, right as right′, all, same→eq}
-use Rattle.chord.specs.Sets.{isSet, has, isRooted, hasAll, hasNone, classCount, countBelow, isIn}
-use Rattle.chord.specs.Intervals.{intervals, nth, numbered, setOf}
-use Rattle.chord.specs.Qualities.{qualityOf, qualityAnswer}
-use Rattle.inference.specs.Intervals.{among, keep, only, atOnce, third, fourth, sixth, fifth, intervalsIn, intervalsOf}
-use Rattle.inference.specs.Parts.{hasThird, withThird, suffixQuality, isSus, within, alterationsOf, sixthAs13, extensionsOf, lastAdd, omitThird, omitFifth}
-use Rattle.inference.specs.Stack as Stack
-use Rattle.inference.specs.Stack.{degreesOf, isDegree, reaches, isStacked, modifierOf, isOwn, isAdd, addsOf}
-use Rattle.inference.specs.Heading.{nine, heading, sus}
-use Rattle.inference.specs.Suffix.{worded, addParts, parts, listed, close, parenthesized, suffixOf, suffixReply}
-use Rattle.inference.proofs.Agree.{at-rooted, same-bool, same-bool→eq}
+use Rattle.intervals.specs.Sets.{isSet, has, isRooted, hasAll, hasNone, classCount, countBelow, isIn}
+use Rattle.intervals.specs.Intervals.{intervals, nth, numbered, setOf}
+use Rattle.qualities.specs.Qualities.{qualityOf, qualityAnswer}
+use Rattle.rules.specs.Classes.{among, keep, only, atOnce, third, fourth, sixth, fifth, intervalsIn, intervalsOf}
+use Rattle.rules.specs.Parts.{hasThird, withThird, suffixQuality, isSus, within, alterationsOf, sixthAs13, extensionsOf, lastAdd, omitThird, omitFifth}
+use Rattle.rules.specs.Stack as Stack
+use Rattle.rules.specs.Stack.{degreesOf, isDegree, reaches, isStacked, modifierOf, isOwn, isAdd, addsOf}
+use Rattle.rules.specs.Heading.{nine, heading, sus}
+use Rattle.rules.specs.Suffix.{worded, addParts, parts, listed, close, parenthesized, suffixOf, suffixReply}
+use Rattle.rules.proofs.Agree.{at-rooted, same-bool, same-bool→eq}
 use Rattle.listing.specs.Listing.{matching, setsOf, inBytes, listingOf}
-use Rattle.voicings.specs.Pool.{tonesOf}
-use Rattle.voicings.specs.Order.{insert, sorted}
-use Rattle.voicings.specs.Choice.{keysFrom, keysOf, best, offersOf, offers, bestOf, without, chosen, others, placedIn, placed}
-use Rattle.voicings.specs.Lead.{barring, lastOf, unbarred, owns, isOwned, withoutLast, leadOf}
-use Rattle.voicings.specs.Guides.{holdsAny, sixths, sevenths, guides, tensions, guideKeys, tensionKeys}
+use Rattle.pool.specs.Pool.{tonesOf}
+use Rattle.pool.specs.Order.{insert, sorted}
+use Rattle.placing.specs.Choice.{keysFrom, keysOf, best, offersOf, offers, bestOf, without, chosen, others, placedIn, placed}
+use Rattle.leads.specs.Lead.{barring, lastOf, unbarred, owns, isOwned, withoutLast, leadOf}
+use Rattle.guiding.specs.Guides.{holdsAny, sixths, sevenths, guides, tensions, guideKeys, tensionKeys}
 use Rattle.voicings.specs.Voicing.{aboveBass, voicingOf, arePairs, voicingReply}
 use Rattle.sheet.specs.Sheet.{gives, answerOf, Row, sheet, Holds, AllHold}
 

@@ -11,17 +11,17 @@ use Prim.Native.Nat.{ℕ}
 use Prim.Native.String.{String}
 use Rattle.answer.specs.Words.{bytes}
 use Rattle.answer.specs.Replies.{Reply, text}
-use Rattle.chord.specs.Intervals.{numberOf}
-use Rattle.chord.specs.Qualities.{qualityAnswer}
-use Rattle.chord.specs.declared.interval.Interval.{Interval}
-use Rattle.chord.specs.declared.interval.Interval.the-variants.{Unison, MinorThird, MajorThird, DiminishedFifth, PerfectFifth, MajorSeventh, FlatNinth}
-use Rattle.chord.specs.declared.quality.ChordQuality.{ChordQuality}
-use Rattle.chord.specs.declared.quality.ChordQuality.the-variants as Quality
-use Rattle.chord.specs.declared.quality.QualityAnswer.{QualityAnswer}
-use Rattle.chord.specs.declared.quality.QualityAnswer.the-variants.{Is}
-use Rattle.inference.specs.Suffix.{suffixReply}
+use Rattle.intervals.specs.Intervals.{numberOf}
+use Rattle.qualities.specs.Qualities.{qualityAnswer}
+use Rattle.intervals.specs.declared.interval.Interval.{Interval}
+use Rattle.intervals.specs.declared.interval.Interval.the-variants.{Unison, MinorThird, MajorThird, DiminishedFifth, PerfectFifth, MajorSeventh, FlatNinth}
+use Rattle.qualities.specs.declared.quality.ChordQuality.{ChordQuality}
+use Rattle.qualities.specs.declared.quality.ChordQuality.the-variants as Quality
+use Rattle.qualities.specs.declared.quality.QualityAnswer.{QualityAnswer}
+use Rattle.qualities.specs.declared.quality.QualityAnswer.the-variants.{Is}
+use Rattle.rules.specs.Suffix.{suffixReply}
 use Rattle.listing.specs.Listing.{inBytes, listingOf}
-use Rattle.voicings.specs.Range.{lowestKey, highestKey}
+use Rattle.placing.specs.Range.{lowestKey, highestKey}
 use Rattle.voicings.specs.Voicing.{voicingReply}
 use Rattle.voicings.specs.declared.voicing.Bass.the-variants as Bass
 use Rattle.voicings.specs.declared.voicing.Lead.{Lead}

@@ -9,11 +9,11 @@ use Prim.Native.Nat.{ℕ, _%_, _^_, _<_, _≤_}
 use lib.Dec.{T, eqb, leb, ltb, eqb→eq, leb→le, ltb→lt}
 use lib.ListN.{length}
 use Rattle.answer.proofs.Tests.{left, right, all}
-use Rattle.chord.specs.Sets.{has}
-use Rattle.chord.specs.Intervals.{intervals, setOf}
-use Rattle.chord.specs.declared.interval.Interval.{Interval}
-use Rattle.inference.specs.Intervals.{among, keep, only, atOnce, third, fourth, sixth, fifth, intervalsIn, intervalsOf}
-use Rattle.inference.proofs.Agree.{at-rooted}
+use Rattle.intervals.specs.Sets.{has}
+use Rattle.intervals.specs.Intervals.{intervals, setOf}
+use Rattle.intervals.specs.declared.interval.Interval.{Interval}
+use Rattle.rules.specs.Classes.{among, keep, only, atOnce, third, fourth, sixth, fifth, intervalsIn, intervalsOf}
+use Rattle.rules.proofs.Agree.{at-rooted}
 
 -- the number that `intervalsOf` reads them off
 abbrev found : ℕ → ℕ

@@ -8,9 +8,9 @@ use Prim.Native.Nat.{ℕ, _≤_, _<_}
 use borrow.Author.Tests.{lt-leb, le-leb}
 use Rattle.answer.specs.Replies.{refuse, text}
 use Rattle.answer.specs.declared.refusal.Refusal.the-variants.{NotASet, BadClass}
-use Rattle.chord.specs.Sets.{isRooted}
-use Rattle.chord.specs.declared.interval.Interval.{Interval}
-use Rattle.chord.specs.declared.interval.IntDegree.{IntDegree}
+use Rattle.intervals.specs.Sets.{isRooted}
+use Rattle.intervals.specs.declared.interval.Interval.{Interval}
+use Rattle.intervals.specs.declared.interval.IntDegree.{IntDegree}
 use Rattle.spelling.specs.Tones.{tonesOf, tonesReply}
 
 module _ (degrees : Interval → IntDegree) (root s : ℕ) where

@@ -19,12 +19,12 @@ use Rattle.answer.specs.Written.{Writes}
 use Rattle.answer.proofs.Digits.{isShort, areBytes}
 use Rattle.answer.proofs.Tests.{left}
 use Rattle.answer.proofs.Writing.{nothing, also, Puts, no-puts, then-put}
-use Rattle.chord.specs.Intervals.{numbered, degreeOf}
-use Rattle.chord.specs.declared.note.Note.{Note}
-use Rattle.chord.specs.declared.interval.Interval.{Interval}
-use Rattle.chord.specs.declared.interval.Numbered.{Numbered}
-use Rattle.chord.specs.declared.interval.Numbered.the-variants.{Is, Nothing}
-use Rattle.inference.specs.Intervals.{intervalsIn}
+use Rattle.intervals.specs.Intervals.{numbered, degreeOf}
+use Rattle.notes.specs.declared.note.Note.{Note}
+use Rattle.intervals.specs.declared.interval.Interval.{Interval}
+use Rattle.intervals.specs.declared.interval.Numbered.{Numbered}
+use Rattle.intervals.specs.declared.interval.Numbered.the-variants.{Is, Nothing}
+use Rattle.rules.specs.Classes.{intervalsIn}
 use Rattle.inference.proofs.First.{First, lowest-of, bit, none-in}
 use Rattle.spelling.specs.Tones.{numberedName, names, spaced, joined}
 use Rattle.spelling.proofs.Spelled.{tone-short}

@@ -2,11 +2,11 @@
 use mathlib.Core.Path.{_≡_, refl}
 use Rattle.answer.specs.Words.{bytes}
 use Rattle.answer.specs.Replies.{text}
-use Rattle.chord.specs.Sets.{isSet, has, isRooted}
-use Rattle.chord.specs.Intervals.{intervals, degreeOf, setOf}
-use Rattle.chord.specs.Notes.{semitone, spelled, getNote}
-use Rattle.chord.specs.NoteText.{letterName, signs, noteName}
-use Rattle.inference.specs.Intervals.{among, keep, only, atOnce, third, fourth, sixth, fifth, intervalsIn, intervalsOf}
+use Rattle.intervals.specs.Sets.{isSet, has, isRooted}
+use Rattle.intervals.specs.Intervals.{intervals, degreeOf, setOf}
+use Rattle.notes.specs.Notes.{semitone, spelled, getNote}
+use Rattle.notes.specs.NoteText.{letterName, signs, noteName}
+use Rattle.rules.specs.Classes.{among, keep, only, atOnce, third, fourth, sixth, fifth, intervalsIn, intervalsOf}
 use Rattle.spelling.specs.Tones.{rootNotes, toneOf, toneName, spaced, joined, tonesOf, tonesReply}
 
 pub tones-of-73-on-C : tonesReply degreeOf 0 73 ≡ text (bytes "C Eb F#")

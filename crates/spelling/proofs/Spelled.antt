@@ -12,17 +12,17 @@ use lib.Dec.{T, leb}
 use Rattle.answer.specs.Words.{bytes, same}
 use Rattle.answer.proofs.Digits.{isShort}
 use Rattle.answer.proofs.Tests.{is-true, all, at, same→eq}
-use Rattle.chord.specs.Intervals.{semitonesOf, numericOf}
-use Rattle.chord.specs.Notes.{isNote, isMove, spelled, getNote, getNoteAnswer}
-use Rattle.chord.specs.NoteText.{letterName, signs, noteName}
-use Rattle.chord.specs.declared.note.Note.{Note}
-use Rattle.chord.specs.declared.note.NoteAnswer.the-variants.{Is}
-use Rattle.chord.specs.declared.interval.Interval.{Interval}
-use Rattle.chord.specs.declared.interval.Interval.the-variants.{Unison, MinorSecond, MajorSecond, MinorThird, MajorThird, PerfectFourth, AugmentedFourth, DiminishedFifth, PerfectFifth, AugmentedFifth, MinorSixth, MajorSixth, DiminishedSeventh, MinorSeventh, MajorSeventh, Octave, FlatNinth, Ninth, SharpNinth, Eleventh, SharpEleventh, FlatThirteenth, Thirteenth}
-use Rattle.chord.specs.declared.interval.IntDegree.{IntDegree}
-use Rattle.chord.specs.declared.interval.IntDegree.the-variants.{Root, Second, Third, Fourth, Fifth, Sixth, Seventh}
-use Rattle.chord.specs.declared.interval.IntDegree.the-variants as Degree
-use Rattle.chord.proofs.Names.{name-short}
+use Rattle.intervals.specs.Intervals.{semitonesOf, numericOf}
+use Rattle.notes.specs.Notes.{isNote, isMove, spelled, getNote, getNoteAnswer}
+use Rattle.notes.specs.NoteText.{letterName, signs, noteName}
+use Rattle.notes.specs.declared.note.Note.{Note}
+use Rattle.notes.specs.declared.note.NoteAnswer.the-variants.{Is}
+use Rattle.intervals.specs.declared.interval.Interval.{Interval}
+use Rattle.intervals.specs.declared.interval.Interval.the-variants.{Unison, MinorSecond, MajorSecond, MinorThird, MajorThird, PerfectFourth, AugmentedFourth, DiminishedFifth, PerfectFifth, AugmentedFifth, MinorSixth, MajorSixth, DiminishedSeventh, MinorSeventh, MajorSeventh, Octave, FlatNinth, Ninth, SharpNinth, Eleventh, SharpEleventh, FlatThirteenth, Thirteenth}
+use Rattle.intervals.specs.declared.interval.IntDegree.{IntDegree}
+use Rattle.intervals.specs.declared.interval.IntDegree.the-variants.{Root, Second, Third, Fourth, Fifth, Sixth, Seventh}
+use Rattle.intervals.specs.declared.interval.IntDegree.the-variants as Degree
+use Rattle.notes.proofs.Names.{name-short}
 use Rattle.inference.specs.Names.{nameOf, flats}
 use Rattle.spelling.specs.Tones.{rootNotes, rootNote, toneOf, toneName}
 

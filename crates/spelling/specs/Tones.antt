@@ -20,16 +20,16 @@ use lib.ListN.{getD}
 use Rattle.answer.specs.Words.{bytes}
 use Rattle.answer.specs.Replies.{Reply, refuse, text}
 use Rattle.answer.specs.declared.refusal.Refusal.the-variants.{NotASet, BadClass}
-use Rattle.chord.specs.Sets.{isRooted}
-use Rattle.chord.specs.Intervals.{semitonesOf, numericOf}
-use Rattle.chord.specs.Notes.{getNote, noteOf}
-use Rattle.chord.specs.NoteText.{signs, noteName}
-use Rattle.chord.specs.declared.note.Note.{Note}
-use Rattle.chord.specs.declared.interval.Interval.{Interval}
-use Rattle.chord.specs.declared.interval.IntDegree.{IntDegree}
-use Rattle.chord.specs.declared.interval.Numbered.{Numbered}
-use Rattle.chord.specs.declared.interval.Numbered.the-variants.{Is, Nothing}
-use Rattle.inference.specs.Intervals.{intervalsOf}
+use Rattle.intervals.specs.Sets.{isRooted}
+use Rattle.intervals.specs.Intervals.{semitonesOf, numericOf}
+use Rattle.notes.specs.Notes.{getNote, noteOf}
+use Rattle.notes.specs.NoteText.{signs, noteName}
+use Rattle.notes.specs.declared.note.Note.{Note}
+use Rattle.intervals.specs.declared.interval.Interval.{Interval}
+use Rattle.intervals.specs.declared.interval.IntDegree.{IntDegree}
+use Rattle.intervals.specs.declared.interval.Numbered.{Numbered}
+use Rattle.intervals.specs.declared.interval.Numbered.the-variants.{Is, Nothing}
+use Rattle.rules.specs.Classes.{intervalsOf}
 
 abbrev pub plain : ℕ → Note
 plain letter = noteOf letter (pos 0)

@@ -13,7 +13,7 @@ use lib.Dec.{T, eqb, lit<}
 use lib.Pow.{shl-exact}
 use borrow.Author.Tests.{eqb-true}
 use Rattle.answer.proofs.Tests.{said}
-use Rattle.chord.specs.Sets.{has}
+use Rattle.intervals.specs.Sets.{has}
 
 pub past : (s k : ℕ) → s < 2 ^ 32 → 31 < k → has s k ≡ false
 unfolding has

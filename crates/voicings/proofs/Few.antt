@@ -7,8 +7,8 @@ use native.Mathlib.Nat.{le-trans}
 use native.Mathlib.Omega.{arith}
 use lib.Dec.{eqb}
 use lib.ListN.{length}
-use Rattle.chord.specs.Sets.{has}
-use Rattle.voicings.specs.declared.pool.Tone.{Tone}
+use Rattle.intervals.specs.Sets.{has}
+use Rattle.pool.specs.declared.pool.Tone.{Tone}
 use Rattle.voicings.specs.declared.keys.Offer.{Offer}
 use Rattle.voicings.specs.Choice.{nothing, best, offers, without, chosen, others, placedIn, placed}
 use Rattle.voicings.specs.Guides.{guideKeys, tensionKeys}

@@ -10,9 +10,9 @@ use native.Mathlib.Omega.{arith}
 use lib.Dec.{T, eqb}
 use borrow.Author.Tests.{eqb-true}
 use Rattle.answer.proofs.Tests.{all, at, is-true}
-use Rattle.chord.specs.Sets.{has}
-use Rattle.chord.proofs.Members.{taken-has}
-use Rattle.voicings.specs.declared.pool.Tone.{Tone}
+use Rattle.intervals.specs.Sets.{has}
+use Rattle.intervals.proofs.Members.{taken-has}
+use Rattle.pool.specs.declared.pool.Tone.{Tone}
 use Rattle.voicings.specs.declared.keys.Offer.{Offer}
 use Rattle.voicings.specs.Choice.{without, chosen, others}
 use Rattle.voicings.specs.Offered.{nearestOf, keep}

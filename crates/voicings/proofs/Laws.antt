@@ -8,8 +8,8 @@ use native.Mathlib.Decide.{decLt}
 use native.Mathlib.Omega.{arith}
 use lib.Dec.{eqb}
 use lib.ListN.{length}
-use Rattle.chord.specs.Sets.{has}
-use Rattle.voicings.specs.declared.pool.Tone.{Tone}
+use Rattle.intervals.specs.Sets.{has}
+use Rattle.pool.specs.declared.pool.Tone.{Tone}
 use Rattle.voicings.specs.Choice.{keysFrom, keysOf, without}
 use Rattle.voicings.specs.Lead.{rubs}
 use Rattle.voicings.proofs.Climb.{passed, taken, past}

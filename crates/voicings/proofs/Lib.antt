@@ -1,10 +1,6 @@
 pub mod Digit
-pub mod Left
 pub mod Ring
 pub mod Removed
-pub mod Sorted
-pub mod Sift
-pub mod Walk
 pub mod Best
 pub mod Climb
 pub mod Owned

@@ -9,7 +9,7 @@ use native.Mathlib.Decide.{decLt}
 use native.Mathlib.Omega.{arith}
 use lib.Dec.{eqb, leb, ltb}
 use borrow.Author.Tests.{eq-eqb, ne-eqb, lt-ltb, le-ltb, lt-leb, le-leb}
-use Rattle.chord.specs.Sets.{isIn}
+use Rattle.intervals.specs.Sets.{isIn}
 use Rattle.voicings.specs.Choice.{keysFrom}
 
 -- two ways to say that a key is within a range

@@ -12,7 +12,7 @@ use native.Mathlib.Numerals.{add-one}
 use lib.ListN.{length, take, drop, getD}
 use lib.Seq.{slice, getD-take, length-take-le}
 use Rattle.answer.proofs.Tests.{said}
-use Rattle.voicings.specs.declared.pool.Tone.{Tone}
+use Rattle.pool.specs.declared.pool.Tone.{Tone}
 use Rattle.voicings.specs.Lead.{owns, isOwned, withoutLast}
 use Rattle.voicings.specs.Owners.{withoutAt}
 

@@ -16,11 +16,11 @@ use lib.ListN.{length, take}
 use borrow.Author.Tests.{lt-leb, le-leb}
 use Rattle.answer.specs.Replies.{refuse, text}
 use Rattle.answer.specs.declared.refusal.Refusal.the-variants.{BadClass, TooManyPairs, BadPair}
-use Rattle.voicings.specs.declared.pool.Tone.{Tone}
+use Rattle.pool.specs.declared.pool.Tone.{Tone}
 use Rattle.voicings.specs.declared.voicing.Bass.{Bass}
 use Rattle.voicings.specs.declared.voicing.Bass.the-variants as Bass
 use Rattle.voicings.specs.declared.voicing.Chord.{Chord}
-use Rattle.voicings.specs.Pool.{toneOf, tonesOf}
+use Rattle.pool.specs.Pool.{toneOf, tonesOf}
 use Rattle.voicings.specs.Voicing.{bassKeys, isBass, arePairs, voicingOf, voicingReply}
 
 pub used-classes : (cs is : List ℕ) → length cs ≤ length is → length (tonesOf cs is) ≡ length cs

@@ -6,8 +6,8 @@ use Prim.Native.Nat.{ℕ, zero, suc, _-_, _≤_, _<_}
 use native.Mathlib.Nat.{not-suc-le-zero, le-of-suc-le-suc}
 use native.Mathlib.Omega.{arith}
 use lib.ListN.{length, take, getD}
-use Rattle.chord.specs.Intervals.{intervals, setOf}
-use Rattle.voicings.specs.declared.pool.Tone.{Tone}
+use Rattle.intervals.specs.Intervals.{intervals, setOf}
+use Rattle.pool.specs.declared.pool.Tone.{Tone}
 use Rattle.voicings.specs.Lead.{barring, lastOf, unbarred}
 
 last-of : (d t : Tone) (l : List Tone) (n : ℕ) → n ≤ length l → lastOf t (take n l) ≡ getD (t ∷ l) n d

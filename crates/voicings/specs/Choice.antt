@@ -16,8 +16,8 @@ use mathlib.Core.List.{List, [], _∷_, _++_, map}
 use Prim.Native.Nat.{ℕ, zero, suc, _+_, _-_, _^_}
 use lib.Dec.{eqb, leb, ltb}
 use lib.ListN.{length}
-use Rattle.chord.specs.Sets.{has}
-use Rattle.voicings.specs.declared.pool.Tone.{Tone}
+use Rattle.intervals.specs.Sets.{has}
+use Rattle.pool.specs.declared.pool.Tone.{Tone}
 use Rattle.voicings.specs.declared.keys.Offer.{Offer}
 
 unfoldable pub keysFrom : ℕ → ℕ → ℕ → ℕ → List ℕ

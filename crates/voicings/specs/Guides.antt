@@ -15,11 +15,11 @@ use mathlib.Core.List.{List, [], _∷_, _++_}
 use Prim.Native.Nat.{ℕ, suc}
 use lib.Dec.{ltb}
 use lib.ListN.{length}
-use Rattle.chord.specs.Sets.{has}
-use Rattle.chord.specs.Intervals.{setOf}
-use Rattle.chord.specs.declared.interval.Interval.{Interval}
-use Rattle.chord.specs.declared.interval.Interval.the-variants.{Unison, MinorThird, MajorThird, PerfectFourth, AugmentedFourth, DiminishedFifth, PerfectFifth, AugmentedFifth, MajorSixth, DiminishedSeventh, MinorSeventh, MajorSeventh, FlatNinth, Ninth, SharpNinth, Eleventh, SharpEleventh, FlatThirteenth, Thirteenth}
-use Rattle.voicings.specs.declared.pool.Tone.{Tone}
+use Rattle.intervals.specs.Sets.{has}
+use Rattle.intervals.specs.Intervals.{setOf}
+use Rattle.intervals.specs.declared.interval.Interval.{Interval}
+use Rattle.intervals.specs.declared.interval.Interval.the-variants.{Unison, MinorThird, MajorThird, PerfectFourth, AugmentedFourth, DiminishedFifth, PerfectFifth, AugmentedFifth, MajorSixth, DiminishedSeventh, MinorSeventh, MajorSeventh, FlatNinth, Ninth, SharpNinth, Eleventh, SharpEleventh, FlatThirteenth, Thirteenth}
+use Rattle.pool.specs.declared.pool.Tone.{Tone}
 use Rattle.voicings.specs.Choice.{chosen, placed}
 
 unfoldable pub holdsAny : ℕ → List Tone → Bool

@@ -10,9 +10,9 @@ use mathlib.Core.Bool.{Bool, false, cond, _||_}
 use mathlib.Core.List.{List, [], _∷_}
 use Prim.Native.Nat.{ℕ, suc}
 use lib.Dec.{eqb}
-use Rattle.chord.specs.Sets.{isIn}
-use Rattle.chord.specs.Intervals.{intervals, setOf}
-use Rattle.voicings.specs.declared.pool.Tone.{Tone}
+use Rattle.intervals.specs.Sets.{isIn}
+use Rattle.intervals.specs.Intervals.{intervals, setOf}
+use Rattle.pool.specs.declared.pool.Tone.{Tone}
 use Rattle.voicings.specs.Choice.{distance, keysOf, bestOf, chosen, without}
 
 abbrev pub rubs : Tone → Tone → Bool

@@ -1,6 +1,4 @@
 pub mod Range
-pub mod Pool
-pub mod Order
 pub mod Choice
 pub mod Offered
 pub mod Lead

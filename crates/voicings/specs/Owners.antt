@@ -2,7 +2,7 @@
 --     withoutAt    past the last tone it is the pool as it was
 use mathlib.Core.List.{List, [], _∷_}
 use Prim.Native.Nat.{ℕ, zero, suc}
-use Rattle.voicings.specs.declared.pool.Tone.{Tone}
+use Rattle.pool.specs.declared.pool.Tone.{Tone}
 
 unfoldable pub withoutAt : ℕ → List Tone → List Tone
 withoutAt n [] = []

@@ -12,14 +12,14 @@ use lib.Dec.{leb}
 use lib.ListN.{length}
 use Rattle.answer.specs.Replies.{Reply, refuse, text}
 use Rattle.answer.specs.declared.refusal.Refusal.the-variants.{BadClass, TooManyPairs, BadPair}
-use Rattle.voicings.specs.declared.pool.Tone.{Tone}
+use Rattle.pool.specs.declared.pool.Tone.{Tone}
 use Rattle.voicings.specs.declared.voicing.Bass.{Bass}
 use Rattle.voicings.specs.declared.voicing.Bass.the-variants as Bass
 use Rattle.voicings.specs.declared.voicing.Lead.{Lead}
 use Rattle.voicings.specs.declared.voicing.Lead.the-variants as Lead
 use Rattle.voicings.specs.declared.voicing.Chord.{Chord}
-use Rattle.voicings.specs.Pool.{tonesOf}
-use Rattle.voicings.specs.Order.{sorted}
+use Rattle.pool.specs.Pool.{tonesOf}
+use Rattle.pool.specs.Order.{sorted}
 use Rattle.voicings.specs.Lead.{leadOf, withoutLast}
 use Rattle.voicings.specs.Guides.{guideKeys, tensionKeys}
 

@@ -1,6 +1,6 @@
 // A set of intervals as a number, with a bit for each one's number.
 ghost use mathlib.Core.Path.{_≡_};
-ghost use Rattle.chord.specs.Sets.{has};
+ghost use Rattle.intervals.specs.Sets.{has};
 ghost use Rattle.voicings.specs.Choice.{without};
 
 pub(crate) fn in_set(set: u32, number: u8) -> bool

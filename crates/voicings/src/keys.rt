@@ -1,5 +1,5 @@
 // The key of a tone that is nearest to a wanted one.
-use crate::pool::Tone;
+use pool::pool::Tone;
 use crate::range::LOWEST;
 use crate::range::OCTAVE_KEY;
 ghost use mathlib.Core.Path.{_≡_};

@@ -4,7 +4,5 @@ mod guides;
 mod keys;
 mod lead;
 mod offers;
-mod order;
-mod pool;
 mod range;
 pub mod voicing;

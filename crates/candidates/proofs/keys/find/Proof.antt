@@ -6,9 +6,9 @@ use Prim.Native.Nat.{ℕ, _-_, _<_, _≤_}
 use native.Mathlib.Omega.{arith}
 use lib.ListN.{length, getD, set, length-set}
 use denote.Ref.{now}
-use Rattle.chord.specs.Sets.{has}
+use Rattle.intervals.specs.Sets.{has}
 use Rattle.candidates.specs.Keys.{keyClass}
-use Rattle.chord.proofs.Members.{present, missing}
+use Rattle.intervals.proofs.Members.{present, missing}
 use Rattle.candidates.proofs.Firsts.{Finding, start, pass, less, room, place, found, bit-held}
 use Rattle.candidates.proofs.keys.find.Statement.{statement}
 use Rattle.candidates.proofs.keys.find.Tie as tie

@@ -1,7 +1,7 @@
 -- `candidates::lines::candidate_count` meets its contract: the count of ones of the list's set.
 use mathlib.Core.Path.{_≡_, ap, sym, _∙_}
 use borrow.Author.Needs.{needs}
-use Rattle.chord.specs.Sets.{classCount}
+use Rattle.intervals.specs.Sets.{classCount}
 use Rattle.candidates.proofs.Counted.{class-count}
 use Rattle.candidates.proofs.lines.candidate_count.Statement.{statement}
 use Rattle.candidates.proofs.lines.candidate_count.Tie as tie

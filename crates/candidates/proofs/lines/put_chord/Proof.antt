@@ -6,7 +6,7 @@ use denote.Ref.{now}
 use borrow.Author.Needs.{needs}
 use Rattle.answer.specs.Written.{Writes}
 use Rattle.inference.specs.Names.{nameOf, flats}
-use Rattle.inference.specs.Suffix.{suffixOf}
+use Rattle.rules.specs.Suffix.{suffixOf}
 use Rattle.answer.proofs.Writing.{Puts, no-puts, then-put, also}
 use Rattle.candidates.specs.Candidates.{chord}
 use Rattle.candidates.proofs.Names.{name-short, name-length}

@@ -7,7 +7,7 @@ use lib.ListN.{length, getD}
 use denote.Ref.{now}
 use borrow.Author.Needs.{needs}
 use borrow.Rule.Slice.PartMut.{putMid, same-len-mid}
-use Rattle.chord.specs.Sets.{has}
+use Rattle.intervals.specs.Sets.{has}
 use Rattle.candidates.proofs.Parts.{part-long}
 use Rattle.candidates.proofs.Listed.{Listed, listed-first, listed-next, all-listed, none-listed}
 use Rattle.candidates.proofs.lines.put_lines.Statement.{statement}

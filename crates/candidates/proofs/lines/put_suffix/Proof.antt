@@ -8,9 +8,9 @@ use denote.Ref.{now}
 use borrow.Author.Needs.{needs}
 use borrow.Rule.Slice.PartMut.{midOf}
 use Rattle.answer.specs.declared.output.Output.the-variants.{Written}
-use Rattle.inference.specs.Suffix.{suffixOf}
+use Rattle.rules.specs.Suffix.{suffixOf}
 use Rattle.inference.proofs.Replied.{gives-suffix}
-use Rattle.inference.proofs.Short.{suffix-short}
+use Rattle.rules.proofs.Short.{suffix-short}
 use Rattle.candidates.proofs.Parts.{part-adds, part-long}
 use Rattle.candidates.proofs.lines.put_suffix.Statement.{statement}
 use Rattle.candidates.proofs.lines.put_suffix.Tie as tie

@@ -7,8 +7,8 @@ use mir.Syntax.{w32, w64}
 use mir.Val.{SFits, toZ, ofZ}
 use mir.Facts.{toZ-ofZ}
 use borrow.Author.Needs.{needs}
-use Rattle.chord.specs.Notes.{countOf}
-use Rattle.chord.specs.declared.note.Accidental.{Accidental}
+use Rattle.notes.specs.Notes.{countOf}
+use Rattle.notes.specs.declared.note.Accidental.{Accidental}
 use Rattle.hemotusap.proofs.Wide.{held-pos, fits-less, fits-sum}
 use Rattle.hemotusap.proofs.host.note_number.Statement.{statement}
 use Rattle.hemotusap.proofs.host.note_number.Tie as tie

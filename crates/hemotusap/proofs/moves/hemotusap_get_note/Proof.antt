@@ -3,8 +3,8 @@ use mathlib.Core.Path.{_≡_, ap, _∙_}
 use lib.IntN.{ℤ}
 use mir.Facts.{toZ-ofZ}
 use borrow.Author.Needs.{needs}
-use Rattle.chord.specs.Notes.{noteOf, getNoteAnswer}
-use Rattle.chord.specs.declared.note.Note.{Note}
+use Rattle.notes.specs.Notes.{noteOf, getNoteAnswer}
+use Rattle.notes.specs.declared.note.Note.{Note}
 use Rattle.hemotusap.specs.Host.{noteAnswerNumber}
 use Rattle.hemotusap.proofs.moves.hemotusap_get_note.Statement.{statement}
 use Rattle.hemotusap.proofs.moves.hemotusap_get_note.Tie as tie

@@ -2,8 +2,8 @@
 use mathlib.Core.Path.{_≡_, ap, ap₂, _∙_}
 use mir.Facts.{toZ-ofZ}
 use borrow.Author.Needs.{needs}
-use Rattle.chord.specs.Notes.{noteOf, transposeAnswer}
-use Rattle.chord.specs.declared.note.Note.{Note}
+use Rattle.notes.specs.Notes.{noteOf, transposeAnswer}
+use Rattle.notes.specs.declared.note.Note.{Note}
 use Rattle.hemotusap.specs.Host.{noteAnswerNumber}
 use Rattle.hemotusap.proofs.moves.hemotusap_transpose.Statement.{statement}
 use Rattle.hemotusap.proofs.moves.hemotusap_transpose.Tie as tie

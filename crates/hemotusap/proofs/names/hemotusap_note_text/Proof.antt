@@ -4,7 +4,7 @@ use native.Mathlib.Omega.{arith}
 use denote.Ref.{now}
 use mir.Facts.{toZ-ofZ}
 use borrow.Author.Needs.{needs}
-use Rattle.chord.specs.Notes.{noteOf}
+use Rattle.notes.specs.Notes.{noteOf}
 use Rattle.hemotusap.specs.Host.{outputNumber}
 use Rattle.hemotusap.proofs.Wide.{output-fits}
 use Rattle.hemotusap.proofs.names.hemotusap_note_text.Statement.{statement}

@@ -9,10 +9,10 @@ use lib.ListN.{length, length-append}
 use denote.Ref.{now}
 use borrow.Author.Needs.{needs}
 use Rattle.answer.specs.Words.{bytes, packed}
-use Rattle.inference.specs.Intervals.{intervalsOf}
-use Rattle.inference.specs.Parts.{isSus}
-use Rattle.inference.specs.Stack.{addsOf}
-use Rattle.inference.specs.Heading.{wording, modified, nine}
+use Rattle.rules.specs.Classes.{intervalsOf}
+use Rattle.rules.specs.Parts.{isSus}
+use Rattle.rules.specs.Stack.{addsOf}
+use Rattle.rules.specs.Heading.{wording, modified, nine}
 use Rattle.answer.specs.Written.{Writes}
 use Rattle.answer.proofs.Writing.{no-puts, then-put}
 use Rattle.inference.proofs.Texts.{wording-short, nine-short, modified-short, sus-short}

@@ -6,14 +6,14 @@ use lib.ListN.{length}
 use denote.Ref.{now}
 use native.Mathlib.Nat.{le-refl}
 use borrow.Author.Needs.{needs}
-use Rattle.chord.specs.Intervals.{setOf}
+use Rattle.intervals.specs.Intervals.{setOf}
 use Rattle.answer.specs.Words.{bytes}
-use Rattle.inference.specs.Intervals.{intervalsIn}
-use Rattle.inference.specs.Parts.{omitThird, omitFifth}
-use Rattle.inference.specs.Suffix.{worded, parts, parenthesized}
+use Rattle.rules.specs.Classes.{intervalsIn}
+use Rattle.rules.specs.Parts.{omitThird, omitFifth}
+use Rattle.rules.specs.Suffix.{worded, parts, parenthesized}
 use Rattle.answer.specs.Written.{Writes}
-use Rattle.inference.specs.Held.{carriedText}
-use Rattle.inference.proofs.Parted.{omits-small}
+use Rattle.inference.specs.Carried.{carriedText}
+use Rattle.rules.proofs.Parted.{omits-small}
 use Rattle.inference.proofs.Readings.{alterations-few, parts-told}
 use Rattle.inference.proofs.Listed.{Listing, no-parts, then-parts, fits, starts-before, closed}
 use Rattle.inference.proofs.normalize.put_parentheses.Statement.{statement}

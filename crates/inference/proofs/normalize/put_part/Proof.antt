@@ -7,10 +7,10 @@ use lib.ListN.{length-append}
 use denote.Ref.{now}
 use borrow.Author.Needs.{needs}
 use Rattle.answer.specs.Words.{bytes, packed}
-use Rattle.chord.specs.Intervals.{numbered}
-use Rattle.chord.specs.declared.interval.Numbered.{Numbered}
-use Rattle.inference.specs.Heading.{orElse}
-use Rattle.inference.specs.Held.{carriedText}
+use Rattle.intervals.specs.Intervals.{numbered}
+use Rattle.intervals.specs.declared.interval.Numbered.{Numbered}
+use Rattle.rules.specs.Heading.{orElse}
+use Rattle.inference.specs.Carried.{carriedText}
 use Rattle.answer.proofs.Writing.{no-puts, then-put}
 use Rattle.inference.proofs.Texts.{opening-short, carried-short, or-nothing-short}
 use Rattle.inference.proofs.normalize.put_part.Statement.{statement}

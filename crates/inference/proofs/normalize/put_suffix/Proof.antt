@@ -4,10 +4,10 @@ use Prim.Native.Nat.{ℕ}
 use native.Mathlib.Omega.{arith}
 use denote.Ref.{now}
 use borrow.Author.Needs.{needs}
-use Rattle.inference.specs.Suffix.{suffixOf}
+use Rattle.rules.specs.Suffix.{suffixOf}
 use Rattle.answer.specs.Written.{Writes}
 use Rattle.answer.proofs.Writing.{also}
-use Rattle.inference.proofs.Short.{suffix-short, suffix-parts}
+use Rattle.rules.proofs.Short.{suffix-short, suffix-parts}
 use Rattle.inference.proofs.normalize.put_suffix.Statement.{statement}
 use Rattle.inference.proofs.normalize.put_suffix.Tie as tie
 

@@ -9,8 +9,8 @@ use Rattle.answer.specs.Replies.{Reply, text}
 use Rattle.answer.proofs.Rooms.{Answered, refused-by}
 use Rattle.answer.proofs.Tests.{refused, admitted}
 use Rattle.answer.proofs.Writing.{counted, within}
-use Rattle.chord.specs.Sets.{isRooted}
-use Rattle.chord.proofs.Rooted.{rooted-small, rooted-odd}
+use Rattle.intervals.specs.Sets.{isRooted}
+use Rattle.intervals.proofs.Rooted.{rooted-small, rooted-odd}
 use Rattle.inference.proofs.Replied.{not-rooted, rooted}
 use Rattle.inference.proofs.normalize.suffix.Statement.{statement}
 use Rattle.inference.proofs.normalize.suffix.Tie as tie

@@ -2,9 +2,9 @@
 use mathlib.Core.Path.{refl, ap, _∙_}
 use Prim.Native.Nat.{ℕ}
 use native.Mathlib.Nat.{mod-eq-of-lt}
-use Rattle.chord.specs.Intervals.{setOf}
+use Rattle.intervals.specs.Intervals.{setOf}
 use borrow.Author.Needs.{needs}
-use Rattle.inference.specs.Intervals.{intervalsOf}
+use Rattle.rules.specs.Classes.{intervalsOf}
 use Rattle.inference.proofs.reading.read.Statement.{statement}
 use Rattle.inference.proofs.reading.read.Tie as tie
 

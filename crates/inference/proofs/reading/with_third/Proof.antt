@@ -1,8 +1,8 @@
 -- `inference::reading::with_third` meets its contract: the test says whether class 4 is put in.
 use native.Mathlib.Omega.{arith}
 use lib.Bits.{or-lt}
-use Rattle.inference.proofs.Agree.{yes, no-then}
-use Rattle.inference.proofs.Read.{with-third-told}
+use Rattle.rules.proofs.Agree.{yes, no-then}
+use Rattle.rules.proofs.Read.{with-third-told}
 use Rattle.inference.proofs.reading.with_third.Statement.{statement}
 use Rattle.inference.proofs.reading.with_third.Tie as tie
 

@@ -9,9 +9,9 @@ use denote.Ref.{now}
 use borrow.Author.Needs.{needs}
 use Rattle.answer.specs.Words.{same}
 use Rattle.answer.specs.declared.output.Output.the-variants.{Written}
-use Rattle.inference.specs.Suffix.{suffixOf}
+use Rattle.rules.specs.Suffix.{suffixOf}
 use Rattle.inference.proofs.Replied.{gives-suffix}
-use Rattle.inference.proofs.Short.{suffix-reached}
+use Rattle.rules.proofs.Short.{suffix-reached}
 use Rattle.listing.proofs.search.is_suffix.Statement.{statement}
 use Rattle.listing.proofs.search.is_suffix.Tie as tie
 

@@ -2,8 +2,8 @@
 use mathlib.Core.Path.{sym, ap, _∙_}
 use borrow.Author.Needs.{needs}
 use Rattle.answer.specs.Words.{low, packed}
-use Rattle.chord.specs.Intervals.{degreeOf}
-use Rattle.chord.specs.declared.interval.Numbered.{Numbered}
+use Rattle.intervals.specs.Intervals.{degreeOf}
+use Rattle.intervals.specs.declared.interval.Numbered.{Numbered}
 use Rattle.spelling.specs.Tones.{numberedName}
 use Rattle.spelling.proofs.tones.numbered_word.Statement.{statement}
 use Rattle.spelling.proofs.tones.numbered_word.Tie as tie

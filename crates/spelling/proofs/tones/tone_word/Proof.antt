@@ -3,8 +3,8 @@ use mathlib.Core.Path.{_≡_, _∙_}
 use Prim.Native.Nat.{ℕ}
 use native.Mathlib.Omega.{arith}
 use borrow.Author.Needs.{needs}
-use Rattle.chord.specs.Intervals.{degreeOf}
-use Rattle.chord.specs.declared.note.NoteAnswer.the-variants.{Is}
+use Rattle.intervals.specs.Intervals.{degreeOf}
+use Rattle.notes.specs.declared.note.NoteAnswer.the-variants.{Is}
 use Rattle.spelling.specs.Tones.{toneOf, toneName}
 use Rattle.spelling.proofs.Spelled.{tone-is, tone-given}
 use Rattle.spelling.proofs.tones.tone_word.Statement.{statement}

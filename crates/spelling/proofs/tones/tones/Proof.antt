@@ -11,12 +11,12 @@ use borrow.Author.Needs.{needs}
 use Rattle.answer.specs.Replies.{Reply, text}
 use Rattle.answer.proofs.Rooms.{Answered, refused-by}
 use Rattle.answer.proofs.Tests.{refused, admitted}
-use Rattle.chord.specs.Sets.{isRooted}
-use Rattle.chord.proofs.Rooted.{rooted-small, rooted-odd}
-use Rattle.chord.specs.Intervals.{degreeOf, setOf}
-use Rattle.chord.specs.declared.note.Note.{Note}
-use Rattle.chord.specs.declared.interval.Interval.{Interval}
-use Rattle.inference.specs.Intervals.{intervalsIn, intervalsOf}
+use Rattle.intervals.specs.Sets.{isRooted}
+use Rattle.intervals.proofs.Rooted.{rooted-small, rooted-odd}
+use Rattle.intervals.specs.Intervals.{degreeOf, setOf}
+use Rattle.notes.specs.declared.note.Note.{Note}
+use Rattle.intervals.specs.declared.interval.Interval.{Interval}
+use Rattle.rules.specs.Classes.{intervalsIn, intervalsOf}
 use Rattle.spelling.specs.Tones.{rootNote, names, spaced, tonesOf}
 use Rattle.spelling.proofs.Spelled.{root-is}
 use Rattle.spelling.proofs.Counted.{some, few, small, back}

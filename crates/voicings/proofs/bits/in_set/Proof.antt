@@ -1,7 +1,7 @@
 -- `voicings::bits::in_set` meets its contract: a number past 31 is in no set of 32 bits.
 use mathlib.Core.Path.{sym}
 use borrow.Author.Needs.{needs}
-use Rattle.chord.specs.Sets.{has}
+use Rattle.intervals.specs.Sets.{has}
 use Rattle.voicings.proofs.Digit.{past}
 use Rattle.voicings.proofs.bits.in_set.Statement.{statement}
 use Rattle.voicings.proofs.bits.in_set.Tie as tie

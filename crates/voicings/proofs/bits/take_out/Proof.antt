@@ -3,7 +3,7 @@ use mathlib.Core.Path.{_≡_, sym, _∙_}
 use mathlib.Core.Bool.{true}
 use Prim.Native.Nat.{ℕ, _^_, _<_}
 use borrow.Author.Needs.{needs}
-use Rattle.chord.specs.Sets.{has}
+use Rattle.intervals.specs.Sets.{has}
 use Rattle.voicings.specs.Choice.{without}
 use Rattle.voicings.proofs.Digit.{within, bit-held, bit-least}
 use Rattle.voicings.proofs.bits.take_out.Statement.{statement}

@@ -7,12 +7,12 @@ use native.Mathlib.Omega.{arith}
 use lib.ListN.{length, getD}
 use lib.Seq.{slice}
 use borrow.Author.Needs.{needs}
-use Rattle.chord.specs.Sets.{has}
-use Rattle.chord.specs.Intervals.{setOf}
-use Rattle.voicings.specs.declared.pool.Tone.{Tone}
+use Rattle.intervals.specs.Sets.{has}
+use Rattle.intervals.specs.Intervals.{setOf}
+use Rattle.pool.specs.declared.pool.Tone.{Tone}
 use Rattle.voicings.specs.Guides.{holdsAny, sixths, sevenths}
-use Rattle.voicings.proofs.Left.{next, none}
-use Rattle.voicings.proofs.Sift.{blank}
+use Rattle.pool.proofs.Left.{next, none}
+use Rattle.pool.proofs.Sift.{blank}
 use Rattle.voicings.proofs.guides.look_for.Statement.{statement}
 use Rattle.voicings.proofs.guides.look_for.Tie as tie
 

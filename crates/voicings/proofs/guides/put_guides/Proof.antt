@@ -3,8 +3,8 @@ use mathlib.Core.Path.{sym, ap, _∙_}
 use native.Mathlib.Omega.{arith}
 use borrow.Author.Needs.{needs}
 use Rattle.answer.proofs.Writing.{same-text}
-use Rattle.chord.specs.Intervals.{setOf}
-use Rattle.voicings.specs.Pool.{tonesIn}
+use Rattle.intervals.specs.Intervals.{setOf}
+use Rattle.pool.specs.Pool.{tonesIn}
 use Rattle.voicings.specs.Offered.{keep}
 use Rattle.voicings.specs.Guides.{guides}
 use Rattle.voicings.proofs.Kept.{keep-all}

@@ -5,8 +5,8 @@ use lib.ListN.{length}
 use lib.Seq.{length-take-le}
 use borrow.Author.Needs.{needs}
 use Rattle.answer.proofs.Writing.{same-text}
-use Rattle.chord.specs.Intervals.{setOf}
-use Rattle.voicings.specs.Pool.{tonesIn}
+use Rattle.intervals.specs.Intervals.{setOf}
+use Rattle.pool.specs.Pool.{tonesIn}
 use Rattle.voicings.specs.Offered.{keep}
 use Rattle.voicings.specs.Guides.{tensions}
 use Rattle.voicings.proofs.Kept.{keep-all}

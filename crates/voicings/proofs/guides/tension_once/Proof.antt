@@ -6,8 +6,8 @@ use Prim.Native.Nat.{_+_, _*_, _%_}
 use lib.Dec.{ltb}
 use mir.Val.{boolByte}
 use borrow.Author.Needs.{needs}
-use Rattle.chord.specs.Intervals.{setOf}
-use Rattle.chord.specs.declared.interval.Interval.the-variants.{Unison, DiminishedFifth, PerfectFifth, MajorSixth, MajorSeventh}
+use Rattle.intervals.specs.Intervals.{setOf}
+use Rattle.intervals.specs.declared.interval.Interval.the-variants.{Unison, DiminishedFifth, PerfectFifth, MajorSixth, MajorSeventh}
 use Rattle.voicings.proofs.guides.tension_once.Statement.{statement}
 use Rattle.voicings.proofs.guides.tension_once.Tie as tie
 

@@ -6,7 +6,7 @@ use native.Mathlib.Nat.{mod-eq-of-lt}
 use native.Mathlib.Omega.{arith}
 use mir.Val.{boolByte}
 use borrow.Author.Needs.{needs}
-use Rattle.chord.specs.Sets.{has}
+use Rattle.intervals.specs.Sets.{has}
 use Rattle.voicings.specs.Choice.{without}
 use Rattle.voicings.specs.Lead.{rubs}
 use Rattle.voicings.proofs.Digit.{within, bit-held, bit-least}

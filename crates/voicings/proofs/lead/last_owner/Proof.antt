@@ -5,10 +5,10 @@ use Prim.Native.Nat.{ℕ, _+_, _-_, _≤_}
 use native.Mathlib.Omega.{arith}
 use lib.Seq.{slice, length-take-le}
 use borrow.Author.Needs.{needs}
-use Rattle.voicings.specs.declared.pool.Tone.{Tone}
-use Rattle.voicings.specs.Pool.{tonesIn}
+use Rattle.pool.specs.declared.pool.Tone.{Tone}
+use Rattle.pool.specs.Pool.{tonesIn}
 use Rattle.voicings.specs.Lead.{owns, isOwned}
-use Rattle.voicings.proofs.Left.{next, none}
+use Rattle.pool.proofs.Left.{next, none}
 use Rattle.voicings.proofs.Removed.{past, last-gone, none-gone}
 use Rattle.voicings.proofs.lead.last_owner.Statement.{statement}
 use Rattle.voicings.proofs.lead.last_owner.Tie as tie

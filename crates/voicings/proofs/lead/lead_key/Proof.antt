@@ -11,16 +11,16 @@ use lib.Dec.{eqb, ltb}
 use lib.ListN.{length, getD}
 use lib.Seq.{slice}
 use borrow.Author.Needs.{needs}
-use Rattle.chord.specs.Sets.{has}
-use Rattle.voicings.specs.declared.pool.Tone.{Tone}
+use Rattle.intervals.specs.Sets.{has}
+use Rattle.pool.specs.declared.pool.Tone.{Tone}
 use Rattle.voicings.specs.declared.keys.Offer.{Offer}
-use Rattle.voicings.specs.Pool.{tonesIn}
+use Rattle.pool.specs.Pool.{tonesIn}
 use Rattle.voicings.specs.Choice.{nothing, best, without, chosen, bestOf}
 use Rattle.voicings.specs.Offered.{nearestOf}
 use Rattle.voicings.specs.Lead.{leadOf}
 use Rattle.voicings.proofs.Best.{nearer}
-use Rattle.voicings.proofs.Left.{next, none}
-use Rattle.voicings.proofs.Sift.{blank}
+use Rattle.pool.proofs.Left.{next, none}
+use Rattle.pool.proofs.Sift.{blank}
 use Rattle.voicings.proofs.lead.lead_key.Statement.{statement}
 use Rattle.voicings.proofs.lead.lead_key.Tie as tie
 

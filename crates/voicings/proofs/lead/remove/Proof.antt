@@ -6,10 +6,10 @@ use Prim.Native.Nat.{ℕ, _+_, _-_, _≤_, _<_}
 use native.Mathlib.Omega.{arith}
 use lib.ListN.{length, take, getD, set, length-set}
 use lib.Seq.{slice, length-take-le}
-use Rattle.voicings.specs.declared.pool.Tone.{Tone}
-use Rattle.voicings.specs.Pool.{tonesIn}
+use Rattle.pool.specs.declared.pool.Tone.{Tone}
+use Rattle.pool.specs.Pool.{tonesIn}
 use Rattle.voicings.specs.Owners.{withoutAt}
-use Rattle.voicings.proofs.Left.{next, none, pushed, behind}
+use Rattle.pool.proofs.Left.{next, none, pushed, behind}
 use Rattle.voicings.proofs.Removed.{split, past}
 use Rattle.voicings.proofs.lead.remove.Statement.{statement}
 use Rattle.voicings.proofs.lead.remove.Tie as tie

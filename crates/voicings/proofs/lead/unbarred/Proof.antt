@@ -7,10 +7,10 @@ use native.Mathlib.Omega.{arith}
 use lib.ListN.{take, getD}
 use lib.Seq.{slice}
 use borrow.Author.Needs.{needs}
-use Rattle.voicings.specs.declared.pool.Tone.{Tone}
-use Rattle.voicings.specs.Pool.{tonesIn}
+use Rattle.pool.specs.declared.pool.Tone.{Tone}
+use Rattle.pool.specs.Pool.{tonesIn}
 use Rattle.voicings.specs.Lead.{barring, unbarred}
-use Rattle.voicings.proofs.Left.{next, none}
+use Rattle.pool.proofs.Left.{next, none}
 use Rattle.voicings.proofs.Ring.{every, started}
 use Rattle.voicings.proofs.lead.unbarred.Statement.{statement}
 use Rattle.voicings.proofs.lead.unbarred.Tie as tie

@@ -9,9 +9,9 @@ use lib.ListN.{length, take, getD}
 use lib.Seq.{slice}
 use denote.Ref.{now}
 use borrow.Author.Tests.{lt-leb, le-leb}
-use Rattle.voicings.specs.Pool.{tonesOf}
+use Rattle.pool.specs.Pool.{tonesOf}
 use Rattle.voicings.specs.Voicing.{arePairs}
-use Rattle.voicings.proofs.Left.{next, none}
+use Rattle.pool.proofs.Left.{next, none}
 use Rattle.voicings.proofs.voicing.are_pairs.Statement.{statement}
 use Rattle.voicings.proofs.voicing.are_pairs.Tie as tie
 

@@ -7,8 +7,8 @@ use lib.ListN.{length, length-set}
 use lib.Seq.{length-take-le}
 use borrow.Author.Needs.{needs}
 use Rattle.answer.proofs.Writing.{also, stored, same-text}
-use Rattle.voicings.specs.declared.pool.Tone.{Tone}
-use Rattle.voicings.specs.Pool.{tonesIn}
+use Rattle.pool.specs.declared.pool.Tone.{Tone}
+use Rattle.pool.specs.Pool.{tonesIn}
 use Rattle.voicings.specs.Lead.{leadOf, withoutLast}
 use Rattle.voicings.specs.Guides.{guideKeys, tensionKeys}
 use Rattle.voicings.specs.Voicing.{aboveBass}

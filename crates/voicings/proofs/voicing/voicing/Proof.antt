@@ -13,11 +13,11 @@ use Rattle.answer.specs.Written.{Writes}
 use Rattle.answer.proofs.Rooms.{Answered, refused-by}
 use Rattle.answer.proofs.Tests.{left, right, is-true, said, refused, admitted}
 use Rattle.answer.proofs.Writing.{also, same-text, counted, within}
-use Rattle.voicings.specs.declared.pool.Tone.{Tone}
-use Rattle.voicings.specs.Pool.{tonesOf}
-use Rattle.voicings.specs.Order.{sorted}
+use Rattle.pool.specs.declared.pool.Tone.{Tone}
+use Rattle.pool.specs.Pool.{tonesOf}
+use Rattle.pool.specs.Order.{sorted}
 use Rattle.voicings.specs.Voicing.{bassKeys, aboveBass, isBass, arePairs, voicingOf}
-use Rattle.voicings.proofs.Sift.{ordered-front}
+use Rattle.pool.proofs.Sift.{ordered-front}
 use Rattle.voicings.proofs.Replied.{few-classes, few-intervals, first-used, no-class, too-many, bad-pair, told, few-bass}
 use Rattle.voicings.proofs.voicing.voicing.Statement.{statement}
 use Rattle.voicings.proofs.voicing.voicing.Tie as tie

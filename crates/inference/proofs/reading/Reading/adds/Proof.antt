@@ -1,7 +1,7 @@
 -- `inference::reading::Reading::adds` meets its contract: the rule for a reading.
 use mathlib.Core.Path.{refl}
 use borrow.Author.Needs.{needs}
-use Rattle.chord.specs.Masks.{ownBits}
+use Rattle.qualities.specs.Masks.{ownBits}
 use Rattle.inference.proofs.Readings.{adds-told}
 use Rattle.inference.proofs.reading.Reading.adds.Statement.{statement}
 use Rattle.inference.proofs.reading.Reading.adds.Tie as tie

@@ -1,5 +1,5 @@
 -- `inference::reading::Reading::is_sus` meets its contract: a test told at each rooted set.
-use Rattle.inference.proofs.Read.{sus-told}
+use Rattle.rules.proofs.Read.{sus-told}
 use Rattle.inference.proofs.reading.Reading.is_sus.Statement.{statement}
 use Rattle.inference.proofs.reading.Reading.is_sus.Tie as tie
 

@@ -1,5 +1,5 @@
 -- `inference::reading::Reading::omitted_fifth` meets its contract: the rule for a reading.
-use Rattle.inference.proofs.Agree.{yes, no-then}
+use Rattle.rules.proofs.Agree.{yes, no-then}
 use Rattle.inference.proofs.Readings.{omit-fifth-told}
 use Rattle.inference.proofs.reading.Reading.omitted_fifth.Statement.{statement}
 use Rattle.inference.proofs.reading.Reading.omitted_fifth.Tie as tie

@@ -1,6 +1,6 @@
 -- `inference::reading::Reading::omitted_third` meets its contract: a test told at each rooted set.
-use Rattle.inference.proofs.Agree.{yes, no-then}
-use Rattle.inference.proofs.Parted.{omit-third-told}
+use Rattle.rules.proofs.Agree.{yes, no-then}
+use Rattle.rules.proofs.Parted.{omit-third-told}
 use Rattle.inference.proofs.reading.Reading.omitted_third.Statement.{statement}
 use Rattle.inference.proofs.reading.Reading.omitted_third.Tie as tie
 

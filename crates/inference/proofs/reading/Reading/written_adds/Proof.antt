@@ -1,6 +1,6 @@
 -- `inference::reading::Reading::written_adds` meets its contract: the rule for a reading.
 use borrow.Author.Needs.{needs}
-use Rattle.inference.proofs.Parted.{last-small}
+use Rattle.rules.proofs.Parted.{last-small}
 use Rattle.inference.proofs.Readings.{written-told, shown-few}
 use Rattle.inference.proofs.reading.Reading.written_adds.Statement.{statement}
 use Rattle.inference.proofs.reading.Reading.written_adds.Tie as tie

@@ -1,0 +1,4 @@
+pub mod Rows
+pub mod Members
+pub mod Rooted
+pub mod Determined

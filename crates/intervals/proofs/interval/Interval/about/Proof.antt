@@ -1,0 +1,59 @@
+-- `qualities::interval::Interval::about` meets its contract: each arm has the row of its interval.
+use borrow.Author.Needs.{needs}
+use Rattle.answer.specs.Words.{bytes, low, packed}
+use Rattle.intervals.specs.declared.interval.Interval.the-variants.{Unison, MinorSecond, MajorSecond, MinorThird, MajorThird, PerfectFourth, AugmentedFourth, DiminishedFifth, PerfectFifth, AugmentedFifth, MinorSixth, MajorSixth, DiminishedSeventh, MinorSeventh, MajorSeventh, Octave, FlatNinth, Ninth, SharpNinth, Eleventh, SharpEleventh, FlatThirteenth, Thirteenth}
+use Rattle.intervals.proofs.Rows.{told}
+use Rattle.intervals.proofs.interval.Interval.about.Statement.{statement}
+use Rattle.intervals.proofs.interval.Interval.about.Tie as tie
+
+pub about-spec : {M : Type 1} → statement M
+unfolding bytes low packed
+about-spec =
+    tie.close
+    (tie.spec
+    (λ c. search needs)
+    (λ c. search needs)
+    (λ c. search needs)
+    (λ c. search needs)
+    (λ c. search needs)
+    (λ c. search needs)
+    (λ c. search needs)
+    (λ c. search needs)
+    (λ c. search needs)
+    (λ c. search needs)
+    (λ c. search needs)
+    (λ c. search needs)
+    (λ c. search needs)
+    (λ c. search needs)
+    (λ c. search needs)
+    (λ c. search needs)
+    (λ c. search needs)
+    (λ c. search needs)
+    (λ c. search needs)
+    (λ c. search needs)
+    (λ c. search needs)
+    (λ c. search needs)
+    (λ c. search needs)
+    (λ c. told _ Unison (c .enum-told .given .1))
+    (λ c. told _ MinorSecond (c .enum-told2 .given .1))
+    (λ c. told _ MajorSecond (c .enum-told3 .given .1))
+    (λ c. told _ MinorThird (c .enum-told4 .given .1))
+    (λ c. told _ MajorThird (c .enum-told5 .given .1))
+    (λ c. told _ PerfectFourth (c .enum-told6 .given .1))
+    (λ c. told _ AugmentedFourth (c .enum-told7 .given .1))
+    (λ c. told _ DiminishedFifth (c .enum-told8 .given .1))
+    (λ c. told _ PerfectFifth (c .enum-told9 .given .1))
+    (λ c. told _ AugmentedFifth (c .enum-told10 .given .1))
+    (λ c. told _ MinorSixth (c .enum-told11 .given .1))
+    (λ c. told _ MajorSixth (c .enum-told12 .given .1))
+    (λ c. told _ DiminishedSeventh (c .enum-told13 .given .1))
+    (λ c. told _ MinorSeventh (c .enum-told14 .given .1))
+    (λ c. told _ MajorSeventh (c .enum-told15 .given .1))
+    (λ c. told _ Octave (c .enum-told16 .given .1))
+    (λ c. told _ FlatNinth (c .enum-told17 .given .1))
+    (λ c. told _ Ninth (c .enum-told18 .given .1))
+    (λ c. told _ SharpNinth (c .enum-told19 .given .1))
+    (λ c. told _ Eleventh (c .enum-told20 .given .1))
+    (λ c. told _ SharpEleventh (c .enum-told21 .given .1))
+    (λ c. told _ FlatThirteenth (c .enum-told22 .given .1))
+    (λ c. told _ Thirteenth (c .enum-told23 .given .1)))

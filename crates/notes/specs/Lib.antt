@@ -1,0 +1,3 @@
+pub mod Notes
+pub mod NoteText
+pub mod Heights

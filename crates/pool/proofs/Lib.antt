@@ -1,0 +1,7 @@
+pub mod Left
+pub mod Sorted
+pub mod Sift
+pub mod Walk
+pub mod Pairs
+pub mod Pooled
+pub mod Determined

@@ -1,0 +1,92 @@
+-- What 003 keeps for each quality, from which the suffix is made.
+--     maskOf       of a quality: the classes that make it, the intervals that it shows as alterations, those that it shows as
+--                  extensions, and the degrees of which its extensions are stacked
+--     ownBits, alterationBits, extensionBits, stackBits     each of these as a number, a bit for each member
+--     Tells        a row of the code's table has that, with the quality's number
+use mathlib.Core.Path.{_≡_}
+use mathlib.Core.List.{List, [], _∷_, map}
+use Prim.Native.Nat.{ℕ}
+use Rattle.intervals.specs.Sets.{bits}
+use Rattle.intervals.specs.Intervals.{numberOf, numericOf}
+use Rattle.intervals.specs.declared.interval.Interval.{Interval}
+use Rattle.intervals.specs.declared.interval.Interval.the-variants.{DiminishedFifth, AugmentedFifth, MinorSixth, MajorSixth, MajorSeventh, FlatNinth, Ninth, SharpNinth, Eleventh, SharpEleventh, FlatThirteenth, Thirteenth}
+use Rattle.intervals.specs.declared.interval.IntDegree.{IntDegree}
+use Rattle.intervals.specs.declared.interval.IntDegree.the-variants as Degree
+use Rattle.qualities.specs.Qualities.{qualityNumber}
+use Rattle.qualities.specs.declared.quality.About.{About}
+use Rattle.qualities.specs.declared.quality.ChordQuality.{ChordQuality}
+use Rattle.qualities.specs.declared.quality.ChordQuality.the-variants.{Maj, Maj6, Maj7, Dominant7, Mi, Mi6, Mi7, MiMaj7, Augmented, Diminished, Diminished7, Power, Bass}
+
+pub record Mask : Type 0 where
+  pub own : List ℕ
+  pub alterations : List Interval
+  pub extensions : List Interval
+  pub stack : List IntDegree
+
+abbrev mask : List ℕ → List Interval → List Interval → List IntDegree → Mask
+mask o a e s = record { own = o; alterations = a; extensions = e; stack = s }
+
+-- the alterations of most qualities, of an augmented and of a diminished chord
+abbrev usual : List Interval
+usual = DiminishedFifth ∷ AugmentedFifth ∷ MinorSixth ∷ FlatNinth ∷ SharpNinth ∷ SharpEleventh ∷ FlatThirteenth ∷ []
+
+abbrev augmented : List Interval
+augmented = DiminishedFifth ∷ FlatNinth ∷ SharpNinth ∷ SharpEleventh ∷ FlatThirteenth ∷ []
+
+abbrev diminished : List Interval
+diminished = AugmentedFifth ∷ MinorSixth ∷ FlatNinth ∷ FlatThirteenth ∷ []
+
+-- the extensions: 9 and 13 always; with a major sixth, a major seventh, an 11
+abbrev sixth : List Interval
+sixth = MajorSixth ∷ Ninth ∷ Thirteenth ∷ []
+
+abbrev sixthEleventh : List Interval
+sixthEleventh = MajorSixth ∷ Ninth ∷ Eleventh ∷ Thirteenth ∷ []
+
+abbrev seventh : List Interval
+seventh = MajorSeventh ∷ Ninth ∷ Thirteenth ∷ []
+
+abbrev seventhEleventh : List Interval
+seventhEleventh = MajorSeventh ∷ Ninth ∷ Eleventh ∷ Thirteenth ∷ []
+
+-- the stacks, without an 11 and with it
+abbrev skipping : List IntDegree
+skipping = Degree.Seventh ∷ Degree.Ninth ∷ Degree.Thirteenth ∷ []
+
+abbrev full : List IntDegree
+full = Degree.Seventh ∷ Degree.Ninth ∷ Degree.Eleventh ∷ Degree.Thirteenth ∷ []
+
+abbrev pub maskOf : ChordQuality → Mask
+maskOf Maj = mask (4 ∷ []) usual sixth skipping
+maskOf Maj6 = mask (4 ∷ 9 ∷ []) usual seventh full
+maskOf Maj7 = mask (4 ∷ 11 ∷ []) usual sixth skipping
+maskOf Dominant7 = mask (4 ∷ 10 ∷ []) usual sixth skipping
+maskOf Mi = mask (3 ∷ []) usual sixthEleventh full
+maskOf Mi6 = mask (3 ∷ 9 ∷ []) usual seventhEleventh full
+maskOf Mi7 = mask (3 ∷ 10 ∷ []) usual sixthEleventh full
+maskOf MiMaj7 = mask (3 ∷ 11 ∷ []) usual sixthEleventh full
+maskOf Augmented = mask (4 ∷ 8 ∷ []) augmented sixth skipping
+maskOf Diminished = mask (3 ∷ 6 ∷ []) diminished seventhEleventh full
+maskOf Diminished7 = mask (3 ∷ 6 ∷ 9 ∷ []) diminished seventhEleventh full
+maskOf Power = mask (7 ∷ []) [] [] []
+maskOf Bass = mask [] [] [] []
+
+abbrev pub ownBits : ChordQuality → ℕ
+ownBits q = bits (maskOf q .own)
+
+abbrev pub alterationBits : ChordQuality → ℕ
+alterationBits q = bits (map numberOf (maskOf q .alterations))
+
+abbrev pub extensionBits : ChordQuality → ℕ
+extensionBits q = bits (map numberOf (maskOf q .extensions))
+
+abbrev pub stackBits : ChordQuality → ℕ
+stackBits q = bits (map numericOf (maskOf q .stack))
+
+-- a row of the code's table
+pub record Tells (q : ChordQuality) (row : About) : Type 0 where
+  pub number : row .0 ≡ qualityNumber q
+  pub own : row .1 ≡ ownBits q
+  pub alterations : row .2 ≡ alterationBits q
+  pub extensions : row .3 ≡ extensionBits q
+  pub stack : row .4 ≡ stackBits q

@@ -1,0 +1,2 @@
+// The quality of a chord: the Rust's `chord/quality.rs`.
+pub mod quality;

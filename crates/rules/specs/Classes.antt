@@ -1,0 +1,64 @@
+-- Classes become intervals: paper 01, "Sets and intervals" ("Classes become intervals (000)"), sentence by sentence.
+--     is, among      two intervals are the same one; an interval is in a list
+--     keep           the members of a list that pass a test
+--     only           the one interval, where a condition holds
+--     atOnce         "At once": the intervals of classes 0, 1, 2, 4, 5, 7, 10 and 11
+--     third          "Then in this order": what class 3 becomes
+--     fourth         what class 6 becomes
+--     sixth          what class 9 becomes
+--     fifth          "Last 8"
+--     intervalsIn    the intervals of such a set: "Interval sets are visited in rising order"
+--     intervalsOf    the intervals of a set of classes
+use mathlib.Core.Bool.{Bool, false, cond, _&&_, _||_}
+use mathlib.Core.List.{List, [], _∷_, _++_}
+use Prim.Native.Nat.{ℕ}
+use lib.Dec.{eqb}
+use Rattle.intervals.specs.Sets.{has}
+use Rattle.intervals.specs.Intervals.{intervals, numberOf, setOf}
+use Rattle.intervals.specs.declared.interval.Interval.{Interval}
+use Rattle.intervals.specs.declared.interval.Interval.the-variants.{Unison, MinorThird, MajorThird, DiminishedFifth, PerfectFifth, AugmentedFifth, MinorSixth, MajorSixth, DiminishedSeventh, MinorSeventh, MajorSeventh, FlatNinth, Ninth, SharpNinth, Eleventh, SharpEleventh, FlatThirteenth, Thirteenth}
+
+abbrev pub is : Interval → Interval → Bool
+is i j = eqb (numberOf i) (numberOf j)
+
+unfoldable pub among : Interval → List Interval → Bool
+among i [] = false
+among i (j ∷ more) = is i j || among i more
+
+unfoldable pub keep : (Interval → Bool) → List Interval → List Interval
+keep test [] = []
+keep test (i ∷ more) = cond (test i) (i ∷ keep test more) (keep test more)
+
+unfoldable pub only : Bool → Interval → List Interval
+only holds i = cond holds (i ∷ []) []
+
+unfoldable pub atOnce : ℕ → List Interval
+atOnce s =
+    only (has s 0) Unison ++ only (has s 1) FlatNinth ++ only (has s 2) Ninth ++ only (has s 4) MajorThird
+    ++ only (has s 5) Eleventh ++ only (has s 7) PerfectFifth ++ only (has s 10) MinorSeventh ++ only (has s 11) MajorSeventh
+
+unfoldable pub third : ℕ → List Interval
+third s = only (has s 3) (cond (among MajorThird (atOnce s)) SharpNinth MinorThird)
+
+unfoldable pub fourth : ℕ → List Interval
+fourth s = only (has s 6) (cond (among PerfectFifth (atOnce s)) SharpEleventh DiminishedFifth)
+
+unfoldable pub sixth : ℕ → List Interval
+sixth s =
+    only (has s 9)
+    (cond (among MinorSeventh (atOnce s)) Thirteenth
+    (cond (among DiminishedFifth (fourth s) && among MinorThird (third s)) DiminishedSeventh
+    MajorSixth))
+
+unfoldable pub fifth : ℕ → List Interval
+fifth s =
+    only (has s 8)
+    (cond (among MinorSeventh (atOnce s) || among DiminishedSeventh (sixth s) || among MajorSixth (sixth s)) FlatThirteenth
+    (cond (among MajorThird (atOnce s)) AugmentedFifth
+    MinorSixth))
+
+unfoldable pub intervalsIn : ℕ → List Interval
+intervalsIn set = keep (λ i. has set (numberOf i)) intervals
+
+unfoldable pub intervalsOf : ℕ → List Interval
+intervalsOf s = intervalsIn (setOf (atOnce s ++ third s ++ fourth s ++ sixth s ++ fifth s))

@@ -1,0 +1,5 @@
+pub mod Classes
+pub mod Parts
+pub mod Stack
+pub mod Heading
+pub mod Suffix

@@ -1,0 +1,74 @@
+-- What becomes of the extensions: paper 01, "The suffix (002, 003)", its third rule.
+--     isOneOf           a quality is one of some
+--     degreesOf         "those of alterations and extensions by 004's `From<Interval>` table, plus Seventh for Dominant7, Maj7, Mi7,
+--                       MiMaj7"
+--     reaches           "every member of the quality's stack up to its degree is among the degrees"
+--     isStacked         what can be the modifier: not a major seventh, which "is an add"
+--     unstackedOf       the extensions, present or not, up to whose degree a member of the stack is not among the degrees
+--     modifierOf        "Any other extension becomes the modifier, replacing an earlier one": the last that is stacked
+--     isAdd             a major seventh; "else it is an add unless its class is in the quality's own set"
+--     addsOf            the adds; "For both diminished qualities every extension is an add"
+use mathlib.Core.Bool.{Bool, true, false, cond, not, _&&_, _||_}
+use mathlib.Core.List.{List, [], _∷_, _++_, map}
+use Prim.Native.Nat.{ℕ}
+use lib.Dec.{eqb, leb}
+use Rattle.intervals.specs.Intervals.{degreeOf, numericOf, classOf}
+use Rattle.qualities.specs.Qualities.{qualityNumber}
+use Rattle.qualities.specs.Masks.{maskOf}
+use Rattle.intervals.specs.declared.interval.Interval.{Interval}
+use Rattle.intervals.specs.declared.interval.Interval.the-variants.{MajorSeventh, Ninth, Eleventh, Thirteenth}
+use Rattle.intervals.specs.declared.interval.IntDegree.{IntDegree}
+use Rattle.intervals.specs.declared.interval.IntDegree.the-variants.{Seventh}
+use Rattle.intervals.specs.declared.interval.Numbered.{Numbered}
+use Rattle.intervals.specs.declared.interval.Numbered.the-variants.{Is, Nothing}
+use Rattle.qualities.specs.declared.quality.ChordQuality.{ChordQuality}
+use Rattle.qualities.specs.declared.quality.ChordQuality.the-variants.{Maj7, Dominant7, Mi7, MiMaj7, Diminished, Diminished7}
+use Rattle.rules.specs.Classes.{is, keep}
+use Rattle.rules.specs.Parts.{alterationsOf, extensionsOf}
+
+abbrev pub isOneOf : ChordQuality → List ChordQuality → Bool
+isOneOf q [] = false
+isOneOf q (p ∷ more) = eqb (qualityNumber q) (qualityNumber p) || isOneOf q more
+
+abbrev pub ownSeventh : ChordQuality → List IntDegree
+ownSeventh q = cond (isOneOf q (Dominant7 ∷ Maj7 ∷ Mi7 ∷ MiMaj7 ∷ [])) (Seventh ∷ []) []
+
+abbrev pub isDiminished : ChordQuality → Bool
+isDiminished q = isOneOf q (Diminished ∷ Diminished7 ∷ [])
+
+unfoldable pub degreesOf : ChordQuality → List Interval → List IntDegree
+degreesOf q ints = map degreeOf (alterationsOf q ints ++ extensionsOf q ints) ++ ownSeventh q
+
+unfoldable pub isDegree : IntDegree → List IntDegree → Bool
+isDegree d [] = false
+isDegree d (e ∷ more) = eqb (numericOf d) (numericOf e) || isDegree d more
+
+unfoldable pub reaches : List IntDegree → List IntDegree → IntDegree → Bool
+reaches degrees [] top = true
+reaches degrees (d ∷ stack) top = (isDegree d degrees || not (leb (numericOf d) (numericOf top))) && reaches degrees stack top
+
+unfoldable pub isStacked : ChordQuality → List IntDegree → Interval → Bool
+isStacked q degrees e = not (is e MajorSeventh) && reaches degrees (maskOf q .stack) (degreeOf e)
+
+unfoldable pub unstackedOf : ChordQuality → List Interval → List Interval
+unstackedOf q ints =
+    let degrees = degreesOf q ints in keep (λ e. not (reaches degrees (maskOf q .stack) (degreeOf e))) (Ninth ∷ Eleventh ∷ Thirteenth ∷ [])
+
+unfoldable pub lastOf : List Interval → Numbered
+lastOf [] = Nothing
+lastOf (i ∷ []) = Is i
+lastOf (i ∷ j ∷ more) = lastOf (j ∷ more)
+
+unfoldable pub modifierOf : ChordQuality → List Interval → Numbered
+modifierOf q ints =
+    let degrees = degreesOf q ints in cond (isDiminished q) Nothing (lastOf (keep (isStacked q degrees) (extensionsOf q ints)))
+
+unfoldable pub isOwn : ℕ → List ℕ → Bool
+isOwn class [] = false
+isOwn class (k ∷ own) = eqb class k || isOwn class own
+
+unfoldable pub isAdd : ChordQuality → List IntDegree → Interval → Bool
+isAdd q degrees e = is e MajorSeventh || not (isStacked q degrees e) && not (isOwn (classOf e) (maskOf q .own))
+
+unfoldable pub addsOf : ChordQuality → List Interval → List Interval
+addsOf q ints = let degrees = degreesOf q ints in cond (isDiminished q) (extensionsOf q ints) (keep (isAdd q degrees) (extensionsOf q ints))
