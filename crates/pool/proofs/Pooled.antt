@@ -2,17 +2,23 @@
 --     fitting      how many of so many pairs fit
 --     taken-few    the first n of a list are at most n, and no more than all
 --     pooled       the pool of the tones of two ranges, of which the first are taken
---     pool-is      tones as a pool are one
---     pool-tones   whose tones are the first sixteen
+--     pool-tones   the tones of a pool are the first sixteen
+--     pool-is      tones as a pool make one
+--     pool-whole   a pool is that of its tones
+--     ordered      the pool of some tones, put in order, is that of the first sixteen in order
 use mathlib.Core.Path.{_≡_, refl, sym, ap, ap₂, _∙_}
 use mathlib.Core.List.{List, [], _∷_, _++_}
 use Prim.Native.Nat.{ℕ, zero, suc, _≤_, _<_}
 use native.Mathlib.Nat.{min-eq-left, min-eq-right, le-of-lt}
 use native.Mathlib.Omega.{arith}
-use lib.ListN.{length, take, drop, length-take}
+use lib.ListN.{length, take, drop, length-take, length-append, length-drop, length-replicate, take-append-drop}
+use lib.Seq.{take-at, drop-at, take-all, length-take-le}
+use borrow.Author.Tests.{le-leb}
 use Rattle.pool.specs.declared.pool.Tone.{Tone}
 use Rattle.pool.specs.declared.pool.Pool.{Pool}
-use Rattle.pool.specs.Pool.{toneOf, tonesOf, blanks, poolOf}
+use Rattle.pool.specs.Pool.{toneOf, tonesOf, blank, blanks, poolOf, tonesIn, IsPool}
+use Rattle.pool.specs.Order.{sorted, takesPart, orderedIn}
+use Rattle.pool.proofs.Sorted.{sorted-length}
 
 -- so many of a list as its first n are
 all-taken : {A : Type 0} (n : ℕ) (l : List A) → take (length (take n l)) l ≡ take n l
@@ -47,3 +53,53 @@ unfolding poolOf
 pooled cs is n r e told =
     ap (λ (x : List Tone). record { tones = x; count = n }) (told ∙ ap (λ (l : List Tone). l ++ drop n blanks) (taken n cs is))
     ∙ ap₂ laidOut (ap (λ (k : ℕ). take k (tonesOf cs is)) e ∙ all-taken 16 (tonesOf cs is)) e
+
+-- so many tones, and blanks behind them
+size : (l : List Tone) → length l ≤ 16 → length (l ++ drop (length l) blanks) ≡ 16
+size l h = simp (length-append, length-drop, length-replicate) (omega arith)
+
+of-few : (l : List Tone) → length l ≤ 16 → poolOf l ≡ laidOut l (length l)
+unfolding poolOf
+of-few l h = ap (λ (first : List Tone). laidOut first (length first)) (take-all 16 l h)
+
+of-first : (l : List Tone) → poolOf (take 16 l) ≡ poolOf l
+unfolding poolOf
+of-first l = ap (λ (first : List Tone). laidOut first (length first)) (take-all 16 (take 16 l) (taken-few 16 l .0))
+
+few-is : (l : List Tone) → length l ≤ 16 → IsPool (laidOut l (length l))
+few-is l h = record { places = size l h; few = h; rest = drop-at l (drop (length l) blanks) (length l) refl }
+
+module _ (l : List Tone) where
+  pub pool-tones : tonesIn (poolOf l) ≡ take 16 l
+  unfolding poolOf
+  pool-tones = take-at (take 16 l) _ (length (take 16 l)) refl
+
+  pub pool-is : IsPool (poolOf l)
+  unfolding poolOf
+  pool-is = few-is (take 16 l) (taken-few 16 l .0)
+
+pub pool-whole : (pool : Pool) → IsPool pool → pool ≡ poolOf (tonesIn pool)
+pool-whole pool is =
+    let e = length-take-le (pool .count) (pool .tones) (omega (arith, is .places, is .few)) in
+    ap (λ (tones : List Tone). record { tones = tones; count = pool .count }) (sym (take-append-drop (pool .count) (pool .tones)) ∙ ap (λ (x : List Tone). tonesIn pool ++ x) (is .rest))
+    ∙ ap (laidOut (tonesIn pool)) (sym e)
+    ∙ sym (of-few (tonesIn pool) (omega (arith, e, is .few)))
+
+-- the first of a run in order, the others as they were
+in-front : (l rest : List Tone) → length l ≤ 16 → orderedIn (length l) (l ++ rest) ≡ sorted l ++ rest
+unfolding takesPart orderedIn
+in-front l rest h =
+    let there : length l ≤ length (l ++ rest) = simp length-append (omega arith) in
+    rw (le-leb (length l) 16 h, le-leb (length l) (length (l ++ rest)) there)
+    (ap₂ (λ (x y : List Tone). sorted x ++ y) (take-at l rest (length l) refl) (drop-at l rest (length l) refl))
+
+pub ordered : (l : List Tone) (pool : Pool) (r : List Tone) → pool ≡ poolOf l → r ≡ orderedIn (pool .count) (pool .tones)
+    → _≡_ {A = Pool} record { tones = r; count = pool .count } (poolOf (sorted (take 16 l)))
+unfolding poolOf
+ordered l pool r e told =
+    let first = take 16 l in
+    let few = taken-few 16 l .0 in
+    let n = sorted-length first in
+    ap₂ (λ (t : List Tone) (k : ℕ). record { tones = t; count = k }) (told ∙ ap (λ (p : Pool). orderedIn (p .count) (p .tones)) e ∙ in-front first (drop (length first) blanks) few) (ap (λ (p : Pool). p .count) e)
+    ∙ ap (laidOut (sorted first)) (sym n)
+    ∙ sym (of-few (sorted first) (omega (arith, n, few)))

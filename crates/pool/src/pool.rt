@@ -40,7 +40,7 @@ fn base(interval: u8) -> u8
 }
 
 impl Tone {
-    pub fn new(class: u8, interval: u8) -> Tone
+    fn new(class: u8, interval: u8) -> Tone
         ensures { λ r. ⌜ r ≡ toneOf class interval ⌝ }
     {
         Tone {
@@ -76,7 +76,7 @@ fn laid(classes: &[u8], intervals: &[u8], count: usize) -> [Tone; 16]
 }
 
 // The tones of the pairs that are used, in the order given; of more than the most, the first.
-pub fn notes_pool(classes: &[u8], intervals: &[u8]) -> Pool
+pub(crate) fn notes_pool(classes: &[u8], intervals: &[u8]) -> Pool
     ensures { λ r. ⌜ r ≡ poolOf (tonesOf (now (classes .entry)) (now (intervals .entry))) ⌝ }
 {
     let pairs = used(classes, intervals);
