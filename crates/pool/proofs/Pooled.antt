@@ -5,6 +5,7 @@
 --     pool-tones   the tones of a pool are the first sixteen
 --     pool-is      tones as a pool make one
 --     pool-whole   a pool is that of its tones
+--     ordered-tones   the tones of the pool of the first sixteen in order
 --     ordered      the pool of some tones, put in order, is that of the first sixteen in order
 use mathlib.Core.Path.{_≡_, refl, sym, ap, ap₂, _∙_}
 use mathlib.Core.List.{List, [], _∷_, _++_}
@@ -103,3 +104,6 @@ ordered l pool r e told =
     ap₂ (λ (t : List Tone) (k : ℕ). record { tones = t; count = k }) (told ∙ ap (λ (p : Pool). orderedIn (p .count) (p .tones)) e ∙ in-front first (drop (length first) blanks) few) (ap (λ (p : Pool). p .count) e)
     ∙ ap (laidOut (sorted first)) (sym n)
     ∙ sym (of-few (sorted first) (omega (arith, n, few)))
+
+pub ordered-tones : (l : List Tone) → tonesIn (poolOf (sorted (take 16 l))) ≡ sorted (take 16 l)
+ordered-tones l = pool-tones (sorted (take 16 l)) ∙ take-all 16 (sorted (take 16 l)) (omega (arith, sorted-length (take 16 l), taken-few 16 l .0))

@@ -9,8 +9,8 @@ use lib.Dec.{eqb}
 use lib.ListN.{length}
 use Rattle.intervals.specs.Sets.{has}
 use Rattle.pool.specs.declared.pool.Tone.{Tone}
-use Rattle.voicings.specs.declared.keys.Offer.{Offer}
-use Rattle.voicings.specs.Choice.{nothing, best, offers, without, chosen, others, placedIn, placed}
+use Rattle.keys.specs.declared.nearest.Offer.{Offer}
+use Rattle.keys.specs.Choice.{nothing, best, offers, without, chosen, others, placedIn, placed}
 use Rattle.voicings.specs.Guides.{guideKeys, tensionKeys}
 
 some-or-none : (b : Bool) (k n : ℕ) (l : List ℕ) → length l ≤ n → length (cond b [] (k ∷ l)) ≤ suc n

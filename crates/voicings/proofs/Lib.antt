@@ -1,13 +1,5 @@
-pub mod Digit
-pub mod Ring
-pub mod Removed
-pub mod Best
-pub mod Climb
-pub mod Owned
-pub mod Kept
 pub mod Search
 pub mod Placing
 pub mod Few
 pub mod Replied
-pub mod Laws
 pub mod Determined

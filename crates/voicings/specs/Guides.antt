@@ -20,7 +20,7 @@ use Rattle.intervals.specs.Intervals.{setOf}
 use Rattle.intervals.specs.declared.interval.Interval.{Interval}
 use Rattle.intervals.specs.declared.interval.Interval.the-variants.{Unison, MinorThird, MajorThird, PerfectFourth, AugmentedFourth, DiminishedFifth, PerfectFifth, AugmentedFifth, MajorSixth, DiminishedSeventh, MinorSeventh, MajorSeventh, FlatNinth, Ninth, SharpNinth, Eleventh, SharpEleventh, FlatThirteenth, Thirteenth}
 use Rattle.pool.specs.declared.pool.Tone.{Tone}
-use Rattle.voicings.specs.Choice.{chosen, placed}
+use Rattle.keys.specs.Choice.{chosen, placed}
 
 unfoldable pub holdsAny : ℕ → List Tone → Bool
 holdsAny set [] = false

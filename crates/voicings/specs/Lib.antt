@@ -1,7 +1,3 @@
-pub mod Range
-pub mod Choice
-pub mod Offered
-pub mod Lead
-pub mod Owners
+pub mod Offers
 pub mod Guides
 pub mod Voicing

@@ -20,7 +20,7 @@ use Rattle.voicings.specs.declared.voicing.Lead.the-variants as Lead
 use Rattle.voicings.specs.declared.voicing.Chord.{Chord}
 use Rattle.pool.specs.Pool.{tonesOf}
 use Rattle.pool.specs.Order.{sorted}
-use Rattle.voicings.specs.Lead.{leadOf, withoutLast}
+use Rattle.leads.specs.Lead.{leadOf, withoutLast}
 use Rattle.voicings.specs.Guides.{guideKeys, tensionKeys}
 
 abbrev pub wantedOf : ℕ → Lead → ℕ
@@ -31,16 +31,18 @@ abbrev pub bassKeys : ℕ → Bass → List ℕ
 bassKeys root Bass.None = (root + 36) ∷ []
 bassKeys root (Bass.Class bass) = (bass + 36) ∷ (root + 48) ∷ []
 
--- the pool ordered, then what is left of it once the lead has left
+-- guides and tensions of the pool that a lead has left, and the lead
 unfoldable pub aboveBass : ℕ → ℕ → ℕ → List Tone → List ℕ
-aboveBass lowest highest wanted pool =
-    let lead = leadOf lowest highest wanted pool in
-    let left = withoutLast lowest highest lead pool in
-    guideKeys lowest highest left ++ tensionKeys lowest lead left ++ (lead ∷ [])
+aboveBass lowest highest lead left = guideKeys lowest highest left ++ tensionKeys lowest lead left ++ (lead ∷ [])
+
+-- of the pool in order of base
+unfoldable pub above : ℕ → ℕ → ℕ → List Tone → List ℕ
+above lowest highest wanted pool =
+    let lead = leadOf lowest highest wanted pool in aboveBass lowest highest lead (withoutLast lowest highest lead pool)
 
 unfoldable pub voicingOf : ℕ → ℕ → Chord → List ℕ → List ℕ → List ℕ
 voicingOf lowest highest chord classes intervals =
-    bassKeys (chord .root) (chord .bass) ++ aboveBass lowest highest (wantedOf highest (chord .lead)) (sorted (tonesOf classes intervals))
+    bassKeys (chord .root) (chord .bass) ++ above lowest highest (wantedOf highest (chord .lead)) (sorted (tonesOf classes intervals))
 
 abbrev pub isBass : Bass → Bool
 isBass Bass.None = true

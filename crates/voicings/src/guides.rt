@@ -1,9 +1,9 @@
 // Guides and tensions: which tones of the pool are placed between the bass and the lead.
-use crate::bits::in_set;
+use keys::bits::in_set;
 use crate::offers::offered;
 use crate::offers::put_placed;
 use pool::pool::Pool;
-use crate::range::LIMIT;
+use keys::range::LIMIT;
 use intervals::interval::AUGMENTED_FIFTH;
 use intervals::interval::AUGMENTED_FOURTH;
 use intervals::interval::DIMINISHED_FIFTH;
@@ -28,8 +28,8 @@ ghost use Prim.Native.Nat.{_+_, _≤_};
 ghost use lib.ListN.{length};
 ghost use Rattle.answer.specs.Written.{Writes};
 ghost use Rattle.intervals.specs.Intervals.{setOf};
-ghost use Rattle.voicings.specs.Range.{lowestKey, highestKey};
-ghost use Rattle.pool.specs.Pool.{tonesIn};
+ghost use Rattle.keys.specs.Range.{lowestKey, highestKey};
+ghost use Rattle.pool.specs.Pool.{tonesIn, IsPool};
 ghost use Rattle.voicings.specs.Guides.{holdsAny, sixths, sevenths, guideOnce, tensionOnce, guideKeys, tensionKeys};
 
 const GUIDES: u32 = MINOR_THIRD
@@ -63,7 +63,7 @@ pub struct Held {
 }
 
 pub(crate) fn look_for(pool: Pool) -> Held
-    requires { ⌜ (length (pool .tones) ≡ 16) × (pool .count ≤ 16) ⌝ }
+    requires { ⌜ IsPool pool ⌝ }
     ensures { λ r. ⌜ (r .sixth ≡ holdsAny sixths (tonesIn pool)) × (r .seventh ≡ holdsAny sevenths (tonesIn pool)) ⌝ }
 {
     let mut sixth = false;
@@ -104,7 +104,7 @@ fn tension_once(sixth: bool, seventh: bool, count: usize) -> u32
 
 // Writes the guides behind a place, lowest first.
 pub(crate) fn put_guides(buffer: &mut [u8], place: usize, pool: Pool, held: Held) -> usize
-    requires { ⌜ (length (pool .tones) ≡ 16) × (pool .count ≤ 16) × (place + 16 ≤ length (now buffer)) × (held .sixth ≡ holdsAny sixths (tonesIn pool)) × (held .seventh ≡ holdsAny sevenths (tonesIn pool)) ⌝ }
+    requires { ⌜ IsPool pool × (place + 16 ≤ length (now buffer)) × (held .sixth ≡ holdsAny sixths (tonesIn pool)) × (held .seventh ≡ holdsAny sevenths (tonesIn pool)) ⌝ }
     ensures { λ r. ⌜ Writes (now (buffer .entry)) place (guideKeys lowestKey highestKey (tonesIn pool)) r (now (buffer .exit)) ⌝ }
 {
     let once = guide_once(held.sixth, held.seventh);
@@ -119,7 +119,7 @@ pub(crate) fn put_tensions(
     held: Held,
     lead: u8,
 ) -> usize
-    requires { ⌜ (length (pool .tones) ≡ 16) × (pool .count ≤ 16) × (place + 16 ≤ length (now buffer)) × (held .sixth ≡ holdsAny sixths (tonesIn pool)) × (held .seventh ≡ holdsAny sevenths (tonesIn pool)) ⌝ }
+    requires { ⌜ IsPool pool × (place + 16 ≤ length (now buffer)) × (held .sixth ≡ holdsAny sixths (tonesIn pool)) × (held .seventh ≡ holdsAny sevenths (tonesIn pool)) ⌝ }
     ensures { λ r. ⌜ Writes (now (buffer .entry)) place (tensionKeys lowestKey lead (tonesIn pool)) r (now (buffer .exit)) ⌝ }
 {
     let once = tension_once(held.sixth, held.seventh, pool.count);

@@ -2,25 +2,23 @@
 use crate::guides::look_for;
 use crate::guides::put_guides;
 use crate::guides::put_tensions;
-use crate::lead::lead_key;
-use crate::lead::leave;
-use pool::order::arranged;
-use pool::pool::MOST;
-use pool::pool::Pool;
-use pool::pool::gathered;
-use crate::range::HIGHEST;
 use answer::output::Output;
 use answer::output::give;
 use answer::refusal::Refusal;
 use intervals::set::LAST_CLASS;
+use keys::range::HIGHEST;
+use leads::lead::Led;
+use leads::lead::nearest_lead;
+use pool::pool::MOST;
+use pool::pool::used;
 ghost use mathlib.Core.Path.{_≡_};
 ghost use mathlib.Core.Bool.{true};
 ghost use Prim.Native.Nat.{_+_, _≤_};
 ghost use lib.ListN.{length, take};
 ghost use Rattle.answer.specs.Replies.{outputOf, roomAfter};
 ghost use Rattle.answer.specs.Written.{Writes};
-ghost use Rattle.voicings.specs.Range.{lowestKey, highestKey};
-ghost use Rattle.pool.specs.Pool.{tonesIn, tonesOf};
+ghost use Rattle.keys.specs.Range.{lowestKey, highestKey};
+ghost use Rattle.pool.specs.Pool.{tonesIn, tonesOf, IsPool};
 ghost use Rattle.voicings.specs.Voicing.{wantedOf, bassKeys, aboveBass, isBass, arePairs, voicingReply};
 
 pub enum Bass {
@@ -65,16 +63,6 @@ fn wanted(lead: Lead) -> u8
     }
 }
 
-// How many pairs are used: as many as the shorter range has.
-fn used(classes: &[u8], intervals: &[u8]) -> usize
-    ensures { λ r. ⌜ r ≡ length (tonesOf (now (classes .entry)) (now (intervals .entry))) ⌝ }
-{
-    if classes.len() < intervals.len() {
-        return classes.len();
-    }
-    intervals.len()
-}
-
 fn are_pairs(classes: &[u8], intervals: &[u8], count: usize) -> bool
     requires { ⌜ (count ≤ length (now classes)) × (count ≤ length (now intervals)) ⌝ }
     ensures { λ r. ⌜ r ≡ arePairs (tonesOf (take count (now (classes .entry))) (take count (now (intervals .entry)))) ⌝ }
@@ -111,12 +99,12 @@ fn put_bass(buffer: &mut [u8], root: u32, bass: Bass) -> usize
 }
 
 // Writes what stands above the bass behind a place: guides, tensions, lead.
-fn put_above(buffer: &mut [u8], place: usize, pool: Pool, wanted: u8) -> usize
-    requires { ⌜ (length (pool .tones) ≡ 16) × (pool .count ≤ 16) × (place + 33 ≤ length (now buffer)) ⌝ }
-    ensures { λ r. ⌜ Writes (now (buffer .entry)) place (aboveBass lowestKey highestKey wanted (tonesIn pool)) r (now (buffer .exit)) ⌝ }
+fn put_above(buffer: &mut [u8], place: usize, led: Led) -> usize
+    requires { ⌜ IsPool (led .left) × (place + 33 ≤ length (now buffer)) ⌝ }
+    ensures { λ r. ⌜ Writes (now (buffer .entry)) place (aboveBass lowestKey highestKey (led .key) (tonesIn (led .left))) r (now (buffer .exit)) ⌝ }
 {
-    let lead = lead_key(pool, wanted);
-    let left = leave(pool, lead);
+    let lead = led.key;
+    let left = led.left;
     let held = look_for(left);
     let guided = put_guides(buffer, place, left, held);
     let tensed = put_tensions(buffer, guided, left, held, lead);
@@ -141,9 +129,9 @@ pub fn voicing(chord: Chord, classes: &[u8], intervals: &[u8], out: &mut [u8]) -
     if !are_pairs(classes, intervals, count) {
         return Output::Refused(Refusal::BadPair);
     }
-    let tones = arranged(gathered(classes, intervals, count), count);
+    let led = nearest_lead(classes, intervals, wanted(lead));
     let mut buffer = [0u8; ROOM];
     let place = put_bass(&mut buffer, root, bass);
-    let end = put_above(&mut buffer, place, Pool { tones, count }, wanted(lead));
+    let end = put_above(&mut buffer, place, led);
     give(&buffer[..end], out)
 }

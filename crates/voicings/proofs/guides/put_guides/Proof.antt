@@ -5,9 +5,9 @@ use borrow.Author.Needs.{needs}
 use Rattle.answer.proofs.Writing.{same-text}
 use Rattle.intervals.specs.Intervals.{setOf}
 use Rattle.pool.specs.Pool.{tonesIn}
-use Rattle.voicings.specs.Offered.{keep}
+use Rattle.keys.specs.Offered.{keep}
 use Rattle.voicings.specs.Guides.{guides}
-use Rattle.voicings.proofs.Kept.{keep-all}
+use Rattle.keys.proofs.Kept.{keep-all}
 use Rattle.voicings.proofs.Placing.{IsRun, guide-keys}
 use Rattle.voicings.proofs.guides.put_guides.Statement.{statement}
 use Rattle.voicings.proofs.guides.put_guides.Tie as tie

@@ -9,7 +9,7 @@ use borrow.Author.Needs.{needs}
 use Rattle.answer.proofs.Writing.{also, stored, same-text}
 use Rattle.pool.specs.declared.pool.Tone.{Tone}
 use Rattle.pool.specs.Pool.{tonesIn}
-use Rattle.voicings.specs.Lead.{leadOf, withoutLast}
+use Rattle.leads.specs.Lead.{leadOf, withoutLast}
 use Rattle.voicings.specs.Guides.{guideKeys, tensionKeys}
 use Rattle.voicings.specs.Voicing.{aboveBass}
 use Rattle.voicings.proofs.Few.{few-guides, few-tensions}

@@ -1,0 +1,5 @@
+pub mod Ring
+pub mod Removed
+pub mod Owned
+pub mod Laws
+pub mod Determined

@@ -1,0 +1,64 @@
+-- Which keys are a tone's: those of the range that are some twelves above the key of its class.
+--     none-below   no key below the first
+--     by-twelves   from the first on, those of the range whose distance from it has no rest by twelve
+use mathlib.Core.Path.{_≡_, refl, sym, ap, _∙_}
+use mathlib.Core.Bool.{Bool, true, false, cond, _&&_, _||_, and-true, and-false, or-false}
+use mathlib.Core.List.{List, _∷_}
+use Prim.Native.Nat.{ℕ, zero, suc, _+_, _-_, _*_, _%_, _≤_, _<_}
+use native.Mathlib.Decide.{decLt}
+use native.Mathlib.Omega.{arith}
+use lib.Dec.{eqb, leb, ltb}
+use borrow.Author.Tests.{eq-eqb, ne-eqb, lt-ltb, le-ltb, lt-leb, le-leb}
+use Rattle.intervals.specs.Sets.{isIn}
+use Rattle.keys.specs.Choice.{keysFrom}
+
+-- two ways to say that a key is within a range
+pub up-to : (k n : ℕ) → ltb k (suc n) ≡ leb k n
+up-to k n = by-order (decLt n k)
+  where
+    by-order : Dec (n < k) → ltb k (suc n) ≡ leb k n
+    by-order (yes h) = le-ltb k (suc n) h ∙ sym (lt-leb k n h)
+    by-order (no h) = let most : k ≤ n = omega arith in lt-ltb k (suc n) (omega arith) ∙ sym (le-leb k n most)
+
+module _ (lowest limit k : ℕ) where
+  abbrev fits : ℕ → Bool
+  fits key = leb lowest key && ltb key limit
+
+  -- a key, and the rest of them
+  step : (key : ℕ) (l : List ℕ) (b : Bool) → isIn k (cond b (key ∷ l) l) ≡ b && eqb k key || isIn k l
+  unfolding isIn
+  step key l true = refl
+  step key l false = refl
+
+  pub none-below : (n key : ℕ) → k < key → isIn k (keysFrom lowest limit n key) ≡ false
+  unfolding isIn keysFrom
+  none-below zero key h = refl
+  none-below (suc n) key h =
+      let other : k ≡ key → ⊥ = λ e. omega arith in
+      step key (keysFrom lowest limit n (key + 12)) (fits key)
+      ∙ rw (ne-eqb k key other, and-false (fits key)) (none-below n (key + 12) (omega arith))
+
+  pub by-twelves : (n key : ℕ) → key ≤ k → k < key + 12 * n → isIn k (keysFrom lowest limit n key) ≡ fits k && eqb ((k - key) % 12) 0
+  unfolding keysFrom
+  by-twelves zero key h less = absurd (let no-way : ⊥ = omega arith in no-way)
+  by-twelves (suc n) key h less =
+      step key (keysFrom lowest limit n (key + 12)) (fits key) ∙ by-order (decLt key k) (decLt k (key + 12)) (by-twelves n (key + 12))
+    where
+      rest : List ℕ
+      rest = keysFrom lowest limit n (key + 12)
+
+      by-order : Dec (key < k) → Dec (k < key + 12) → (key + 12 ≤ k → k < key + 12 + 12 * n → isIn k rest ≡ fits k && eqb ((k - (key + 12)) % 12) 0)
+          → fits key && eqb k key || isIn k rest ≡ fits k && eqb ((k - key) % 12) 0
+      by-order (no least) near more =
+          let e : k ≡ key = omega arith in
+          let whole : (k - key) % 12 ≡ 0 = omega arith in
+          rw (none-below n (key + 12) (omega arith), eq-eqb k key e, eq-eqb ((k - key) % 12) 0 whole, and-true (fits key), and-true (fits k), or-false (fits key))
+          (ap fits (sym e))
+      by-order (yes above) (yes near) more =
+          let other : k ≡ key → ⊥ = λ e. omega arith in
+          let part : (k - key) % 12 ≡ 0 → ⊥ = λ e. omega arith in
+          rw (none-below n (key + 12) near, ne-eqb k key other, ne-eqb ((k - key) % 12) 0 part, and-false (fits key), and-false (fits k))
+      by-order (yes above) (no far) more =
+          let other : k ≡ key → ⊥ = λ e. omega arith in
+          let same : (k - (key + 12)) % 12 ≡ (k - key) % 12 = omega arith in
+          rw (ne-eqb k key other, and-false (fits key)) (more (omega arith) (omega arith) ∙ ap (λ (r : ℕ). fits k && eqb r 0) same)

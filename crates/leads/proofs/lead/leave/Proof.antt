@@ -1,0 +1,12 @@
+-- `leads::lead::leave` meets its contract: the tone at the place of the last that owns the lead leaves.
+use mathlib.Core.Path.{_∙_}
+use Rattle.leads.proofs.lead.leave.Statement.{statement}
+use Rattle.leads.proofs.lead.leave.Tie as tie
+
+pub leave-spec : {M : Type 1} → statement M
+leave-spec =
+    tie.close
+    (tie.spec
+    (λ c κs. c .pre)
+    (λ c κs. c .before .pre)
+    (λ c. (c .remove .ensures .0, c .remove .ensures .1 ∙ c .before .last-owner .ensures .1)))

@@ -1,0 +1,41 @@
+-- `leads::lead::nearest_lead` meets its contract: the lead of the ordered pool, and what it leaves.
+use mathlib.Core.Path.{_≡_, sym, ap, ap₂, subst, _∙_}
+use mathlib.Core.List.{List}
+use Prim.Native.Nat.{ℕ}
+use lib.ListN.{take}
+use denote.Ref.{now}
+use borrow.Author.Needs.{needs}
+use Rattle.pool.specs.declared.pool.Tone.{Tone}
+use Rattle.pool.specs.declared.pool.Pool.{Pool}
+use Rattle.pool.specs.Pool.{tonesOf, poolOf, tonesIn, IsPool}
+use Rattle.pool.specs.Order.{sorted}
+use Rattle.pool.proofs.Pooled.{pool-is, pool-whole, ordered-tones}
+use Rattle.leads.specs.declared.lead.Led.{Led}
+use Rattle.leads.specs.Lead.{withoutLast, leadOf, ledOf}
+use Rattle.leads.proofs.lead.nearest_lead.Statement.{statement}
+use Rattle.leads.proofs.lead.nearest_lead.Tie as tie
+
+module _ (l : List Tone) (pool : Pool) (e : pool ≡ poolOf (sorted (take 16 l))) where
+  is-pool : IsPool pool
+  is-pool = subst IsPool (sym e) (pool-is (sorted (take 16 l)))
+
+  led : (key wanted : ℕ) (left : Pool) → key ≡ leadOf 51 79 wanted (tonesIn pool) → IsPool left
+      → tonesIn left ≡ withoutLast 51 79 key (tonesIn pool) → _≡_ {A = Led} record { key = key; left = left } (ledOf 51 79 wanted (sorted (take 16 l)))
+  unfolding ledOf
+  led key wanted left k is f =
+      let tones : tonesIn pool ≡ sorted (take 16 l) = ap tonesIn e ∙ ordered-tones l in
+      ap (λ (p : Pool). record { key = key; left = p }) (pool-whole left is ∙ ap poolOf f)
+      ∙ ap₂ (λ (x : ℕ) (t : List Tone). record { key = x; left = poolOf (withoutLast 51 79 x t) }) (k ∙ ap (leadOf 51 79 wanted) tones) tones
+
+abbrev pairs : tie.After-ordered-pool → List Tone
+pairs c = tonesOf (now (c .before .before .before .args .classes)) (now (c .before .before .before .args .intervals))
+
+pub nearest-lead-spec : {M : Type 1} → statement M
+nearest-lead-spec =
+    tie.close
+    (tie.spec
+    (λ c κs. search needs)
+    (λ c κs. is-pool (pairs c) _ (c .ordered-pool .ensures))
+    (λ c κs. is-pool (pairs (c .before)) _ (c .before .ordered-pool .ensures))
+    (λ c. let p = c .before .before in
+    led (pairs p) _ (p .ordered-pool .ensures) _ _ _ (c .before .lead-key .ensures) (c .leave .ensures .0) (c .leave .ensures .1)))

@@ -1,7 +1,0 @@
--- `voicings::lead::rubs` meets its contract: by the distance of the bases.
-use borrow.Author.Needs.{needs}
-use Rattle.voicings.proofs.lead.rubs.Statement.{statement}
-use Rattle.voicings.proofs.lead.rubs.Tie as tie
-
-pub rubs-spec : {M : Type 1} → statement M
-rubs-spec = tie.close (tie.spec (λ c κs. search needs) (λ c. rw (c .distance .ensures)))
