@@ -13,7 +13,7 @@ use Rattle.voicings.proofs.guides.put_guides.Statement.{statement}
 use Rattle.voicings.proofs.guides.put_guides.Tie as tie
 
 isRun : (c : tie.After-offered) → IsRun (c .offered .result)
-isRun c = (c .offered .ensures .0, omega (arith, c .offered .ensures .1, c .before .before .before .before .pre .1))
+isRun c = (c .offered .ensures .0, omega (arith, c .offered .ensures .1, c .before .before .before .before .pre .0 .few))
 
 put-placed-requires : tie.Need-put-placed-requires
 put-placed-requires c κs =
@@ -21,7 +21,7 @@ put-placed-requires c κs =
     let are = c .offered .ensures .2 in (
       isRun c .0,
       isRun c .1,
-      omega (arith, c .offered .ensures .1, s .pre .1, s .pre .2),
+      omega (arith, c .offered .ensures .1, s .pre .0 .few, s .pre .1),
       ap (keep 0xffff_ffff) are ∙ keep-all 51 80 0 13048 (c .before .before .guide-once .result) (tonesIn (s .args .pool)) (omega arith) (search needs) ∙ sym are,
     )
 
@@ -33,7 +33,7 @@ returns c =
     let s = g .before .before in
     same-text
     (guide-keys (o .offered .result) (isRun o) (tonesIn (s .args .pool)) (g .guide-once .result) (s .args .held .sixth) (s .args .held .seventh)
-    (s .pre .3) (s .pre .4) (o .offered .ensures .2) (g .guide-once .ensures))
+    (s .pre .2) (s .pre .3) (o .offered .ensures .2) (g .guide-once .ensures))
     (c .before .before .put-placed .ensures)
 
 pub put-guides-spec : {M : Type 1} → statement M

@@ -15,7 +15,7 @@ use Rattle.voicings.proofs.guides.put_tensions.Statement.{statement}
 use Rattle.voicings.proofs.guides.put_tensions.Tie as tie
 
 isRun : (c : tie.After-offered) → IsRun (c .offered .result)
-isRun c = (c .offered .ensures .0, omega (arith, c .offered .ensures .1, c .before .before .before .before .pre .1))
+isRun c = (c .offered .ensures .0, omega (arith, c .offered .ensures .1, c .before .before .before .before .pre .0 .few))
 
 put-placed-requires : tie.Need-put-placed-requires
 put-placed-requires c κs =
@@ -23,7 +23,7 @@ put-placed-requires c κs =
     let are = c .offered .ensures .2 in (
       isRun c .0,
       isRun c .1,
-      omega (arith, c .offered .ensures .1, s .pre .1, s .pre .2),
+      omega (arith, c .offered .ensures .1, s .pre .0 .few, s .pre .1),
       ap (keep 0xffff_ffff) are ∙ keep-all 51 (s .args .lead) (s .args .lead) 8323072 (c .before .before .tension-once .result) (tonesIn (s .args .pool)) (omega arith) (search needs) ∙ sym are,
     )
 
@@ -34,10 +34,10 @@ returns c =
     let g = o .before .before in
     let s = g .before .before in
     let size : s .args .pool .count ≡ length (tonesIn (s .args .pool)) =
-    sym (length-take-le (s .args .pool .count) (s .args .pool .tones) (omega (arith, s .pre .0, s .pre .1))) in
+    sym (length-take-le (s .args .pool .count) (s .args .pool .tones) (omega (arith, s .pre .0 .places, s .pre .0 .few))) in
     same-text
     (tension-keys (o .offered .result) (isRun o) (tonesIn (s .args .pool)) (g .tension-once .result) (s .args .held .sixth) (s .args .held .seventh)
-    (s .pre .3) (s .pre .4) (s .args .lead) (s .args .pool .count) size (o .offered .ensures .2) (g .tension-once .ensures))
+    (s .pre .2) (s .pre .3) (s .args .lead) (s .args .pool .count) size (o .offered .ensures .2) (g .tension-once .ensures))
     (c .before .before .put-placed .ensures)
 
 pub put-tensions-spec : {M : Type 1} → statement M

@@ -6,6 +6,7 @@ use Prim.Native.Nat.{ℕ, _≤_, _<_}
 use native.Mathlib.Omega.{arith}
 use lib.Dec.{leb, leb→le}
 use lib.ListN.{length, take, replicate}
+use lib.Seq.{take-all}
 use denote.Ref.{now}
 use borrow.Author.Needs.{needs}
 use Rattle.answer.specs.Replies.{Reply, text}
@@ -14,11 +15,15 @@ use Rattle.answer.proofs.Rooms.{Answered, refused-by}
 use Rattle.answer.proofs.Tests.{left, right, is-true, said, refused, admitted}
 use Rattle.answer.proofs.Writing.{also, same-text, counted, within}
 use Rattle.pool.specs.declared.pool.Tone.{Tone}
-use Rattle.pool.specs.Pool.{tonesOf}
+use Rattle.pool.specs.Pool.{tonesOf, tonesIn, IsPool}
 use Rattle.pool.specs.Order.{sorted}
-use Rattle.voicings.specs.Voicing.{bassKeys, aboveBass, isBass, arePairs, voicingOf}
-use Rattle.pool.proofs.Sift.{ordered-front}
-use Rattle.voicings.proofs.Replied.{few-classes, few-intervals, first-used, no-class, too-many, bad-pair, told, few-bass}
+use Rattle.leads.specs.declared.lead.Led.{Led}
+use Rattle.leads.specs.Lead.{leadOf, ledOf}
+use Rattle.leads.proofs.Led.{led-is, led-left}
+use Rattle.voicings.specs.Voicing.{wantedOf, bassKeys, aboveBass, above, isBass, arePairs, voicingOf}
+use Rattle.pool.proofs.Pairs.{few-classes, few-intervals, first-used}
+use Rattle.pool.proofs.Sorted.{sorted-length}
+use Rattle.voicings.proofs.Replied.{no-class, too-many, bad-pair, told, few-bass}
 use Rattle.voicings.proofs.voicing.voicing.Statement.{statement}
 use Rattle.voicings.proofs.voicing.voicing.Tie as tie
 
@@ -77,42 +82,53 @@ returns-3 c =
     let bad = refused _ _ (c .before .are-pairs .ensures ∙ ap arePairs (used-tones e)) (c .if3 .taken) in
     refused-by _ _ _ (bad-pair _ _ (s .args .chord) _ _ (good (e .before .before)) (few e) bad)
 
--- the tones of the pool
-module _ (c : tie.After-arranged) where
+-- the lead, and the pool that it leaves
+module _ (c : tie.After-nearest-lead) where
   abbrev pairs : tie.Else2
   pairs = c .before .before .before .before
 
-  tones : (length (c .arranged .result) ≡ 16)
-      × (take (count pairs) (c .arranged .result) ≡ sorted (tonesOf (classes pairs) (intervals pairs)))
-  tones =
-      let g = c .before .gathered in
-      let o = ordered-front (count pairs) (g .result) (pairs .if2 .left) (rw (g .ensures .0) (pairs .if2 .left)) in (
-        ap length (c .arranged .ensures) ∙ o .0 ∙ g .ensures .0,
-        ap (take (count pairs)) (c .arranged .ensures) ∙ o .1 ∙ ap sorted (g .ensures .1 ∙ used-tones pairs),
-      )
+  abbrev start : tie.Start
+  start = pairs .before .before .before .before .before .before .before
+
+  abbrev tones : List Tone
+  tones = tonesOf (classes pairs) (intervals pairs)
+
+  abbrev wanted : ℕ
+  wanted = wantedOf 79 (start .args .chord .lead)
+
+  led : c .nearest-lead .result ≡ ledOf 51 79 wanted (sorted tones)
+  led =
+      c .nearest-lead .ensures
+      ∙ ap₂ (λ (w : ℕ) (l : List Tone). ledOf 51 79 w (sorted l)) (c .before .wanted .ensures) (take-all 16 tones (few pairs))
+
+  is-pool : IsPool (c .nearest-lead .result .left)
+  is-pool = subst (λ (x : Led). IsPool (x .left)) (sym led) (led-is 51 79 wanted (sorted tones))
+
+  told-above : aboveBass 51 79 (c .nearest-lead .result .key) (tonesIn (c .nearest-lead .result .left)) ≡ above 51 79 wanted (sorted tones)
+  unfolding ledOf above
+  told-above =
+      ap (λ (x : Led). aboveBass 51 79 (x .key) (tonesIn (x .left))) led
+      ∙ ap (aboveBass 51 79 (leadOf 51 79 wanted (sorted tones))) (led-left 51 79 wanted (sorted tones) (omega (arith, sorted-length tones, few pairs)))
 
 -- the voicing stands at the front of the buffer
 module _ (c : tie.After-put-above) where
-  abbrev arranged : tie.After-arranged
-  arranged = c .before .before .before .before .before .before
+  abbrev lead : tie.After-nearest-lead
+  lead = c .before .before .before .before .before
 
-  abbrev start : tie.Start
-  start = pairs arranged .before .before .before .before .before .before .before
-
-  stands : Writes (replicate 35 0) 0 (voicingOf 51 79 (start .args .chord) (now (start .args .classes)) (now (start .args .intervals))) (c .put-above .result) (c .put-above .last .0)
+  stands : Writes (replicate 35 0) 0 (voicingOf 51 79 (start lead .args .chord) (now (start lead .args .classes)) (now (start lead .args .intervals))) (c .put-above .result) (c .put-above .last .0)
   unfolding voicingOf
   stands =
       same-text
-      (ap₂ (λ (w : ℕ) (l : List Tone). bassKeys (start .args .chord .root) (start .args .chord .bass) ++ aboveBass 51 79 w l) (c .before .wanted .ensures) (tones arranged .1))
-      (also (c .before .before .before .before .put-bass .ensures) (c .put-above .ensures))
+      (ap (λ (l : List ℕ). bassKeys (start lead .args .chord .root) (start lead .args .chord .bass) ++ l) (told-above lead))
+      (also (c .before .before .before .put-bass .ensures) (c .put-above .ensures))
 
 returns-4 : tie.Need-returns-4
 returns-4 c =
     let g = c .before .before in
     let p = g .before .before .before .before in
-    let s = start p in
-    let a = arranged p .before .before in
-    let e = pairs (arranged p) in
+    let s = start (lead p) in
+    let a = lead p .before .before in
+    let e = pairs (lead p) in
     let good-pairs = admitted _ _ (a .before .are-pairs .ensures ∙ ap arePairs (used-tones e)) (a .if3 .left) in
     let reply = ap text (stands p .added) ∙ sym (told 51 79 (s .args .chord) (now (s .args .classes)) (now (s .args .intervals)) (good (e .before .before)) (few e) good-pairs) in
     subst (λ (x : Reply). Answered x (now (s .args .out)) (g .give .result) (g .give .last .1 .0)) reply (g .give .ensures)
@@ -127,16 +143,15 @@ voicing-spec =
     returns-2
     (λ c κs. (in-classes c, in-intervals c))
     returns-3
-    (λ c κs. let e = c .before .before in (e .if2 .left, in-classes e, in-intervals e))
+    (λ c κs. search needs)
     (λ c κs. search needs)
     (λ c. search needs)
     (λ c κs. let e = pairs (c .before) .before .before in (is-root e, is-bass e, omega arith))
     (λ c. search needs)
-    (λ c κs. search needs)
-    (λ c κs. let b = c .before .before .before in
+    (λ c κs. let b = c .before .before in
     let a = b .before .before in
-    let s = pairs a .before .before .before .before .before .before .before in
-    (tones a .0, pairs a .if2 .left, omega (arith, b .put-bass .ensures .place, few-bass (s .args .chord .root) (s .args .chord .bass), b .put-bass .kept .0)))
+    let s = start a in
+    (is-pool a, omega (arith, b .put-bass .ensures .place, few-bass (s .args .chord .root) (s .args .chord .bass), b .put-bass .kept .0)))
     (λ c. within (stands (c .before)))
     (λ c. counted (stands (c .before .before)))
     (λ c κs. search needs)

@@ -1,0 +1,37 @@
+-- What a caller has of a lead and the pool that it leaves.
+--     led-is      what is left makes a pool
+--     led-left    its tones, of a pool that fits
+use mathlib.Core.Path.{_≡_, _∙_}
+use mathlib.Core.Bool.{Bool, true, false, cond}
+use mathlib.Core.List.{List, [], _∷_}
+use Prim.Native.Nat.{ℕ, suc, _≤_}
+use native.Mathlib.Nat.{le-trans}
+use native.Mathlib.Omega.{arith}
+use lib.ListN.{length}
+use lib.Seq.{take-all}
+use Rattle.pool.specs.declared.pool.Tone.{Tone}
+use Rattle.pool.specs.Pool.{tonesIn, IsPool}
+use Rattle.pool.proofs.Pooled.{pool-is, pool-tones}
+use Rattle.leads.specs.Lead.{owns, isOwned, withoutLast, leadOf, ledOf}
+
+module _ (lowest highest : ℕ) where
+  fewer : (key : ℕ) (l : List Tone) → length (withoutLast lowest highest key l) ≤ length l
+  unfolding withoutLast
+  fewer key [] = omega arith
+  fewer key (t ∷ l) = by-owner (isOwned lowest highest key l) (owns lowest highest key t) (fewer key l)
+    where
+      by-owner : (behind own : Bool) → length (withoutLast lowest highest key l) ≤ length l → length (cond behind (t ∷ withoutLast lowest highest key l) (cond own l (t ∷ l))) ≤ suc (length l)
+      by-owner true own less = omega arith
+      by-owner false true less = omega arith
+      by-owner false false less = omega arith
+
+  module _ (wanted : ℕ) (l : List Tone) where
+    pub led-is : IsPool (ledOf lowest highest wanted l .left)
+    unfolding ledOf
+    led-is = pool-is (withoutLast lowest highest (leadOf lowest highest wanted l) l)
+
+    pub led-left : length l ≤ 16 → tonesIn (ledOf lowest highest wanted l .left) ≡ withoutLast lowest highest (leadOf lowest highest wanted l) l
+    unfolding ledOf
+    led-left h =
+        let left = withoutLast lowest highest (leadOf lowest highest wanted l) l in
+        pool-tones left ∙ take-all 16 left (le-trans (fewer (leadOf lowest highest wanted l) l) h)
