@@ -6,7 +6,7 @@ use voicings::voicing::Lead;
 use voicings::voicing::voicing;
 ghost use mathlib.Core.Path.{_≡_};
 ghost use Rattle.answer.specs.Replies.{outputOf, roomAfter};
-ghost use Rattle.placing.specs.Range.{lowestKey, highestKey};
+ghost use Rattle.keys.specs.Range.{lowestKey, highestKey};
 ghost use Rattle.voicings.specs.Voicing.{voicingReply};
 ghost use Rattle.hemotusap.specs.Host.{outputNumber, bassFrom, leadFrom, chordFrom};
 

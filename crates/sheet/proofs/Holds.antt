@@ -23,10 +23,10 @@ use Rattle.rules.proofs.Agree.{at-rooted, same-bool, same-bool→eq}
 use Rattle.listing.specs.Listing.{matching, setsOf, inBytes, listingOf}
 use Rattle.pool.specs.Pool.{tonesOf}
 use Rattle.pool.specs.Order.{insert, sorted}
-use Rattle.placing.specs.Choice.{keysFrom, keysOf, best, offersOf, offers, bestOf, without, chosen, others, placedIn, placed}
+use Rattle.keys.specs.Choice.{keysFrom, keysOf, best, offersOf, offers, bestOf, without, chosen, others, placedIn, placed}
 use Rattle.leads.specs.Lead.{barring, lastOf, unbarred, owns, isOwned, withoutLast, leadOf}
-use Rattle.guiding.specs.Guides.{holdsAny, sixths, sevenths, guides, tensions, guideKeys, tensionKeys}
-use Rattle.voicings.specs.Voicing.{aboveBass, voicingOf, arePairs, voicingReply}
+use Rattle.voicings.specs.Guides.{holdsAny, sixths, sevenths, guides, tensions, guideKeys, tensionKeys}
+use Rattle.voicings.specs.Voicing.{aboveBass, above, voicingOf, arePairs, voicingReply}
 use Rattle.sheet.specs.Sheet.{gives, answerOf, Row, sheet, Holds, AllHold}
 
 -- the sets of the two listings of the sheet
@@ -109,15 +109,15 @@ listings = (
 )
 
 major-seventh : Holds (at 9)
-unfolding has isIn intervals nth numbered setOf tonesOf insert sorted keysFrom keysOf best offersOf offers bestOf without chosen others placedIn placed barring lastOf unbarred owns isOwned withoutLast leadOf holdsAny sixths sevenths guides tensions guideKeys tensionKeys aboveBass voicingOf arePairs voicingReply answerOf
+unfolding has isIn intervals nth numbered setOf tonesOf insert sorted keysFrom keysOf best offersOf offers bestOf without chosen others placedIn placed barring lastOf unbarred owns isOwned withoutLast leadOf holdsAny sixths sevenths guides tensions guideKeys tensionKeys aboveBass above voicingOf arePairs voicingReply answerOf
 major-seventh = refl
 
 diminished : Holds (at 10)
-unfolding has isIn intervals nth numbered setOf tonesOf insert sorted keysFrom keysOf best offersOf offers bestOf without chosen others placedIn placed barring lastOf unbarred owns isOwned withoutLast leadOf holdsAny sixths sevenths guides tensions guideKeys tensionKeys aboveBass voicingOf arePairs voicingReply answerOf
+unfolding has isIn intervals nth numbered setOf tonesOf insert sorted keysFrom keysOf best offersOf offers bestOf without chosen others placedIn placed barring lastOf unbarred owns isOwned withoutLast leadOf holdsAny sixths sevenths guides tensions guideKeys tensionKeys aboveBass above voicingOf arePairs voicingReply answerOf
 diminished = refl
 
 flat-ninth : Holds (at 11)
-unfolding has isIn intervals nth numbered setOf tonesOf insert sorted keysFrom keysOf best offersOf offers bestOf without chosen others placedIn placed barring lastOf unbarred owns isOwned withoutLast leadOf holdsAny sixths sevenths guides tensions guideKeys tensionKeys aboveBass voicingOf arePairs voicingReply answerOf
+unfolding has isIn intervals nth numbered setOf tonesOf insert sorted keysFrom keysOf best offersOf offers bestOf without chosen others placedIn placed barring lastOf unbarred owns isOwned withoutLast leadOf holdsAny sixths sevenths guides tensions guideKeys tensionKeys aboveBass above voicingOf arePairs voicingReply answerOf
 flat-ninth = refl
 
 pub sheet-holds : AllHold sheet

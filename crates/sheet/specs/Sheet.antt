@@ -21,7 +21,7 @@ use Rattle.qualities.specs.declared.quality.QualityAnswer.{QualityAnswer}
 use Rattle.qualities.specs.declared.quality.QualityAnswer.the-variants.{Is}
 use Rattle.rules.specs.Suffix.{suffixReply}
 use Rattle.listing.specs.Listing.{inBytes, listingOf}
-use Rattle.placing.specs.Range.{lowestKey, highestKey}
+use Rattle.keys.specs.Range.{lowestKey, highestKey}
 use Rattle.voicings.specs.Voicing.{voicingReply}
 use Rattle.voicings.specs.declared.voicing.Bass.the-variants as Bass
 use Rattle.voicings.specs.declared.voicing.Lead.{Lead}

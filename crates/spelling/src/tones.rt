@@ -10,7 +10,7 @@ use notes::note::Note;
 use notes::note::NoteAnswer;
 use intervals::set::LAST_CLASS;
 use intervals::set::is_rooted;
-use resolving::intervals::intervals;
+use inference::classes::intervals;
 ghost use mathlib.Core.Path.{_≡_};
 ghost use mathlib.Core.Bool.{true};
 ghost use Prim.Native.Nat.{_+_, _*_, _<_, _≤_, _^_};
