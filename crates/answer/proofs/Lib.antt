@@ -3,5 +3,6 @@ pub mod Digits
 pub mod Writing
 pub mod Feeds
 pub mod Tests
+pub mod Chosen
 pub mod Arms
 pub mod Determined

@@ -1,4 +1,6 @@
 pub mod Rows
 pub mod Members
+pub mod Masked
+pub mod Counted
 pub mod Rooted
 pub mod Determined

@@ -1,6 +1,7 @@
 -- A set with a class put in that it had not: what is in it, how many they are, and how large it is.
 --     held, absent    the digit of a class that is in a set, and of one that is not
 --     present, missing     and from the digit to the class
+--     alone           a set's bitwise and with a class is that class, or nothing
 --     joined          putting it in is a bitwise or
 --     joined-less     the set stays below the same power of two
 --     joined-ones     it has one class more
@@ -36,23 +37,34 @@ pub missing : (s c : ℕ) → s / 2 ^ c % 2 ≡ 0 → has s c ≡ false
 unfolding has
 missing s c e = ne-eqb (s / 2 ^ c % 2) 1 (let other : s / 2 ^ c % 2 ≡ 1 → ⊥ = omega arith in other)
 
+-- a set by the digits from a class up and those below it
+whole : (s c : ℕ) → s ≡ s / 2 ^ c * 2 ^ c + s % 2 ^ c
+whole s c = sym (div-add-mod' s (2 ^ c))
+
+rest-less : (s c : ℕ) → s % 2 ^ c < 2 ^ c
+rest-less s c = mod-lt s (pow-pos c)
+
+-- a class by itself, or none
+abbrev pub only : Bool → ℕ → ℕ
+only b c = cond b (2 ^ c) 0
+
+pub alone : (s c : ℕ) → bitAnd s (2 ^ c) ≡ only (has s c) c
+alone s c =
+    let one : 2 ^ c ≡ 1 * 2 ^ c + 0 = omega arith in
+    ap₂ bitAnd (whole s c) one ∙ and-block c (s / 2 ^ c) 1 (s % 2 ^ c) 0 (rest-less s c) (pow-pos c)
+    ∙ ap₂ (λ (x y : ℕ). x * 2 ^ c + y) (and-mask (s / 2 ^ c) 1) (and-zero-r (s % 2 ^ c)) ∙ by-case (has s c) refl
+  where
+    by-case : (b : Bool) → has s c ≡ b → s / 2 ^ c % 2 * 2 ^ c + 0 ≡ only b c
+    by-case true e = rw (held s c e) (omega arith)
+    by-case false e = rw (absent s c e) (omega arith)
+
 module _ (s c : ℕ) (no-class : has s c ≡ false) where
-  whole : s ≡ s / 2 ^ c * 2 ^ c + s % 2 ^ c
-  whole = sym (div-add-mod' s (2 ^ c))
-
-  rest-less : s % 2 ^ c < 2 ^ c
-  rest-less = mod-lt s (pow-pos c)
-
   -- the digits from the class up, which are even in number
   even : s / 2 ^ c % 2 ≡ 0
   even = absent s c no-class
 
   apart : bitAnd s (2 ^ c) ≡ 0
-  apart =
-      let high : bitAnd (s / 2 ^ c) 1 ≡ 0 = and-mask (s / 2 ^ c) 1 ∙ even in
-      let one : 2 ^ c ≡ 1 * 2 ^ c + 0 = omega arith in
-      ap₂ bitAnd whole one ∙ and-block c (s / 2 ^ c) 1 (s % 2 ^ c) 0 rest-less (pow-pos c)
-      ∙ ap₂ (λ (x y : ℕ). x * 2 ^ c + y) high (and-zero-r (s % 2 ^ c)) ∙ omega arith
+  apart = alone s c ∙ ap (λ (b : Bool). only b c) no-class
 
   pub joined : bitOr s (2 ^ c) ≡ s + 2 ^ c
   joined = or-disjoint s (2 ^ c) apart
@@ -70,13 +82,13 @@ module _ (s c : ℕ) (no-class : has s c ≡ false) where
 
   pub joined-ones : ones (s + 2 ^ c) ≡ suc (ones s)
   joined-ones =
-      let more : s + 2 ^ c ≡ (s / 2 ^ c + 1) * 2 ^ c + s % 2 ^ c = ap (λ (x : ℕ). x + 2 ^ c) whole ∙ rw (add-mul, one-mul) (omega arith) in
-      ap ones more ∙ ones-cat c (s / 2 ^ c + 1) (s % 2 ^ c) rest-less
+      let more : s + 2 ^ c ≡ (s / 2 ^ c + 1) * 2 ^ c + s % 2 ^ c = ap (λ (x : ℕ). x + 2 ^ c) (whole s c) ∙ rw (add-mul, one-mul) (omega arith) in
+      ap ones more ∙ ones-cat c (s / 2 ^ c + 1) (s % 2 ^ c) (rest-less s c)
       ∙ ap (λ (x : ℕ). x + ones (s % 2 ^ c)) next-ones
-      ∙ suc-add (ones (s / 2 ^ c)) (ones (s % 2 ^ c)) ∙ ap suc (sym (ap ones whole ∙ ones-cat c (s / 2 ^ c) (s % 2 ^ c) rest-less))
+      ∙ suc-add (ones (s / 2 ^ c)) (ones (s % 2 ^ c)) ∙ ap suc (sym (ap ones (whole s c) ∙ ones-cat c (s / 2 ^ c) (s % 2 ^ c) (rest-less s c)))
 
 -- the digit of a bitwise or
-or-digit : (a b : ℕ) → bitOr a b % 2 ≡ max (a % 2) (b % 2)
+pub or-digit : (a b : ℕ) → bitOr a b % 2 ≡ max (a % 2) (b % 2)
 or-digit a b =
     let most : max (a % 2) (b % 2) ≤ 1 = max-le (omega arith) (omega arith) in
     let step : bitOr a b ≡ bitOr (a / 2) (b / 2) * 2 + max (a % 2) (b % 2) = or-step a b in

@@ -1,104 +1,97 @@
--- The chain of tests that the code makes is the paper's list of rules at each of the 4,096 sets: one test that is computed.
---     yes, no-then    a test that passes, and one that does not
---     ones-in         the count of ones of a number of k digits looks at k digits
---     answer          what the chain comes to is the quality
-use mathlib.Core.Path.{_≡_, refl, sym, ap, subst, _∙_}
-use mathlib.Core.Bool.{Bool, cond}
-use Prim.Native.Nat.{ℕ, zero, suc, _+_, _/_, _%_, _^_, _<_}
-use native.Mathlib.Omega.{arith}
-use native.Mathlib.Numerals.{add-one}
+-- The chain of tests that the code makes is the paper's list of rules.
+--     Rule           the classes that a rule asks for, those that it keeps away, and its quality
+--     rules          the rules but the first, which counts the classes
+--     tests, first   the quality by the code's tests and by the paper's rules
+--     answer         what the chain comes to is the quality
+--     chained        that, by the tests that the code made
+use mathlib.Core.Path.{_≡_, refl, ap, ap₂, _∙_}
+use mathlib.Core.Bool.{Bool, true, cond, _&&_, and-true}
+use mathlib.Core.List.{List, [], _∷_, _++_}
+use Prim.Native.Nat.{ℕ, _<_}
 use lib.Bits.{bitAnd}
-use lib.Count.{ones, onesIn, ones-step}
-use lib.Dec.{T, eqb, eqb→eq}
-use lib.Pow.{shr-lt}
-use borrow.Author.Tests.{eq-eqb, ne-eqb}
-use Rattle.answer.proofs.Tests.{all, at}
-use Rattle.intervals.specs.Sets.{has, hasAll, hasNone, countBelow, classCount}
-use Rattle.qualities.specs.Qualities.{qualityOf, qualityNumber}
+use lib.Count.{ones}
+use lib.Dec.{T, eqb}
+use Rattle.answer.proofs.Chosen.{test, yes, no-then}
+use Rattle.answer.proofs.Tests.{left, right}
+use Rattle.intervals.specs.Sets.{has, hasAll, hasNone, bits}
+use Rattle.intervals.proofs.Counted.{class-count}
+use Rattle.intervals.proofs.Masked.{once, masked}
+use Rattle.qualities.specs.Qualities.{qualityOf}
 use Rattle.qualities.specs.declared.quality.ChordQuality.{ChordQuality}
 use Rattle.qualities.specs.declared.quality.ChordQuality.the-variants.{Maj, Maj6, Maj7, Dominant7, Mi, Mi6, Mi7, MiMaj7, Augmented, Diminished, Diminished7, Power, Bass}
 
--- one test of the chain: x where a is b, else y
-unfoldable pub test : ℕ → ℕ → ChordQuality → ChordQuality → ChordQuality
-test a b x y = cond (eqb a b) x y
+pub record Rule : Type 0 where
+  pub asked : List ℕ
+  pub away : List ℕ
+  pub quality : ChordQuality
 
-pub yes : (a b : ℕ) (x y : ChordQuality) → a ≡ b → test a b x y ≡ x
+abbrev rule : List ℕ → List ℕ → ChordQuality → Rule
+rule here none q = record { asked = here; away = none; quality = q }
+
+abbrev pub rules : List Rule
+rules =
+    rule (4 ∷ 8 ∷ []) (9 ∷ 10 ∷ 11 ∷ []) Augmented
+    ∷ rule (3 ∷ 6 ∷ 9 ∷ []) (4 ∷ 7 ∷ 10 ∷ []) Diminished7
+    ∷ rule (3 ∷ 6 ∷ []) (4 ∷ 7 ∷ 10 ∷ []) Diminished
+    ∷ rule (4 ∷ 10 ∷ []) [] Dominant7
+    ∷ rule (4 ∷ 9 ∷ []) [] Maj6
+    ∷ rule (4 ∷ 11 ∷ []) [] Maj7
+    ∷ rule (4 ∷ []) [] Maj
+    ∷ rule (3 ∷ 11 ∷ []) [] MiMaj7
+    ∷ rule (3 ∷ 10 ∷ []) [] Mi7
+    ∷ rule (3 ∷ 9 ∷ []) [] Mi6
+    ∷ rule (3 ∷ []) [] Mi
+    ∷ rule (5 ∷ 10 ∷ []) [] Dominant7
+    ∷ rule (7 ∷ []) [] Power
+    ∷ []
+
+-- the code's tests: of the classes that a rule names, those in the set are those that it asks for
+abbrev pub tests : ℕ → List Rule → ChordQuality
+tests s [] = Maj
+tests s (r ∷ more) = test (bitAnd s (bits (r .asked ++ r .away))) (bits (r .asked)) (r .quality) (tests s more)
+
+-- a rule in the paper's words, and the first that holds
+abbrev holds : ℕ → List ℕ → List ℕ → Bool
+holds s here [] = hasAll s here
+holds s here (k ∷ away) = hasAll s here && hasNone s (k ∷ away)
+
+abbrev first : ℕ → List Rule → ChordQuality
+first s [] = Maj
+first s (r ∷ more) = cond (holds s (r .asked) (r .away)) (r .quality) (first s more)
+
+-- one test says whether its rule holds
+test-holds : (s : ℕ) (here away : List ℕ) → T (once here) → T (once (here ++ away)) → eqb (bitAnd s (bits (here ++ away))) (bits here) ≡ holds s here away
+unfolding hasNone
+test-holds s here [] h t = masked s here [] h t ∙ and-true (hasAll s here)
+test-holds s here (k ∷ away) h t = masked s here (k ∷ away) h t
+
+-- no rule names a class twice
+abbrev sound : List Rule → Bool
+sound [] = true
+sound (r ∷ more) = once (r .asked) && once (r .asked ++ r .away) && sound more
+
+-- the first test that passes is that of the first rule that holds
+tests-first : (s : ℕ) (l : List Rule) → T (sound l) → tests s l ≡ first s l
 unfolding test
-yes a b x y e = ap (λ (t : Bool). cond t x y) (eq-eqb a b e)
+tests-first s [] t = refl
+tests-first s (r ∷ more) t =
+    let asked-once = once (r .asked) in
+    let named-once = once (r .asked ++ r .away) in
+    let both-once = left (asked-once && named-once) (sound more) t in
+    ap₂ (λ (b : Bool) (q : ChordQuality). cond b (r .quality) q)
+    (test-holds s (r .asked) (r .away) (left asked-once named-once both-once) (right asked-once named-once both-once))
+    (tests-first s more (right (asked-once && named-once) (sound more) t))
 
-pub no-then : (a b : ℕ) (x y : ChordQuality) → (a ≡ b → ⊥) → test a b x y ≡ y
-unfolding test
-no-then a b x y e = ap (λ (t : Bool). cond t x y) (ne-eqb a b e)
+sound-rules : T (sound rules)
+unfolding once has
+sound-rules = tt
 
--- the chain, of the count of classes and of the set
+-- the code's chain, of the count of classes and of the set
 abbrev pub chain : ℕ → ℕ → ChordQuality
-chain n s =
-    test n 1 Bass
-    (test (bitAnd s 3856) 272 Augmented
-    (test (bitAnd s 1752) 584 Diminished7
-    (test (bitAnd s 1240) 72 Diminished
-    (test (bitAnd s 1040) 1040 Dominant7
-    (test (bitAnd s 528) 528 Maj6
-    (test (bitAnd s 2064) 2064 Maj7
-    (test (bitAnd s 16) 16 Maj
-    (test (bitAnd s 2056) 2056 MiMaj7
-    (test (bitAnd s 1032) 1032 Mi7
-    (test (bitAnd s 520) 520 Mi6
-    (test (bitAnd s 8) 8 Mi
-    (test (bitAnd s 1056) 1056 Dominant7
-    (test (bitAnd s 128) 128 Power
-    Maj)))))))))))))
-
--- qualities of equal numbers are equal
-named : ℕ → ChordQuality
-named n =
-    cond (eqb n 0) Maj
-    (cond (eqb n 1) Maj6
-    (cond (eqb n 2) Maj7
-    (cond (eqb n 3) Dominant7
-    (cond (eqb n 4) Mi
-    (cond (eqb n 5) Mi6
-    (cond (eqb n 6) Mi7
-    (cond (eqb n 7) MiMaj7
-    (cond (eqb n 8) Augmented
-    (cond (eqb n 9) Diminished
-    (cond (eqb n 10) Diminished7
-    (cond (eqb n 11) Power
-    Bass)))))))))))
-
-named-number : (q : ChordQuality) → named (qualityNumber q) ≡ q
-unfolding named
-named-number Maj = refl
-named-number Maj6 = refl
-named-number Maj7 = refl
-named-number Dominant7 = refl
-named-number Mi = refl
-named-number Mi6 = refl
-named-number Mi7 = refl
-named-number MiMaj7 = refl
-named-number Augmented = refl
-named-number Diminished = refl
-named-number Diminished7 = refl
-named-number Power = refl
-named-number Bass = refl
-
-pub same-number : (p q : ChordQuality) → qualityNumber p ≡ qualityNumber q → p ≡ q
-same-number p q e = sym (named-number p) ∙ ap named e ∙ named-number q
-
-pub ones-in : (k n : ℕ) → n < 2 ^ k → onesIn k n ≡ ones n
-unfolding onesIn ones
-ones-in zero n h = ap ones (let e : 0 ≡ n = omega arith in e)
-ones-in (suc k) n h = ap (λ (x : ℕ). n % 2 + x) (ones-in k (n / 2) (shr-lt k 1 (subst (λ (x : ℕ). n < 2 ^ x) (sym (add-one k)) h))) ∙ sym (ones-step n)
-
-right : ℕ → Bool
-right s = eqb (qualityNumber (chain (onesIn 12 s) s)) (qualityNumber (qualityOf s))
-
-computed : T (all right 4096)
-unfolding all right test onesIn qualityOf classCount countBelow has hasAll hasNone
-computed = tt
+chain n s = test n 1 Bass (tests s rules)
 
 pub answer : (q : ChordQuality) (s : ℕ) → s < 4096 → q ≡ chain (ones s) s → q ≡ qualityOf s
-unfolding right
-answer q s h e =
-    e ∙ ap (λ (n : ℕ). chain n s) (sym (ones-in 12 s h))
-    ∙ same-number _ _ (eqb→eq _ _ (at right 4096 computed s h))
+unfolding test qualityOf
+answer q s h e = e ∙ ap₂ (λ (n : ℕ) (p : ChordQuality). cond (eqb n 1) Bass p) (class-count s h) (tests-first s rules sound-rules)
+
+pub ruleset chained = (answer, yes, no-then)

@@ -1,6 +1,5 @@
--- `qualities::quality::first_rule` meets its contract: the tests that led to a return say what the chain comes to.
-use borrow.Author.Needs.{needs}
-use Rattle.qualities.proofs.FirstRule.{answer, yes, no-then}
+-- `qualities::quality::first_rule` meets its contract: the tests that led to a return, at most fourteen, say what the chain comes to.
+use Rattle.qualities.proofs.FirstRule.{chained}
 use Rattle.qualities.proofs.quality.first_rule.Statement.{statement}
 use Rattle.qualities.proofs.quality.first_rule.Tie as tie
 
@@ -8,18 +7,18 @@ pub first-rule-spec : {M : Type 1} → statement M
 first-rule-spec =
     tie.close
     (tie.spec
-    (λ c. answer _ _ (search needs) (search yes))
-    (λ c. answer _ _ (search needs) (search (yes, no-then)))
-    (λ c. answer _ _ (search needs) (search (yes, no-then)))
-    (λ c. answer _ _ (search needs) (search (yes, no-then)))
-    (λ c. answer _ _ (search needs) (search (yes, no-then)))
-    (λ c. answer _ _ (search needs) (search (yes, no-then)))
-    (λ c. answer _ _ (search needs) (search (yes, no-then)))
-    (λ c. answer _ _ (search needs) (search (yes, no-then)))
-    (λ c. answer _ _ (search needs) (search (yes, no-then)))
-    (λ c. answer _ _ (search needs) (search (yes, no-then)))
-    (λ c. answer _ _ (search needs) (search (yes, no-then)))
-    (λ c. answer _ _ (search needs) (search (yes, no-then)))
-    (λ c. answer _ _ (search needs) (search (yes, no-then)))
-    (λ c. answer _ _ (search needs) (search (yes, no-then)))
-    (λ c. answer _ _ (search needs) (search no-then)))
+    (λ c. search chained depth 15)
+    (λ c. search chained depth 15)
+    (λ c. search chained depth 15)
+    (λ c. search chained depth 15)
+    (λ c. search chained depth 15)
+    (λ c. search chained depth 15)
+    (λ c. search chained depth 15)
+    (λ c. search chained depth 15)
+    (λ c. search chained depth 15)
+    (λ c. search chained depth 15)
+    (λ c. search chained depth 15)
+    (λ c. search chained depth 15)
+    (λ c. search chained depth 15)
+    (λ c. search chained depth 15)
+    (λ c. search chained depth 15))
