@@ -16,7 +16,7 @@ use Rattle.rules.specs.Suffix.{suffixOf}
 use Rattle.rules.proofs.Short.{suffix-line}
 use Rattle.candidates.specs.Keys.{seenFrom, classSet, firsts}
 use Rattle.candidates.specs.Candidates.{Classes, chord, over, line, lines, listing, candidatesOf}
-use Rattle.candidates.proofs.Counted.{class-count}
+use Rattle.intervals.proofs.Counted.{class-count}
 use Rattle.candidates.proofs.Heard.{firsts-heard, firsts-less, set-count, set-less, set-of-firsts}
 use Rattle.candidates.proofs.Names.{name-line}
 use Rattle.candidates.proofs.Turned.{seen-less, seen-rooted}

@@ -4,6 +4,5 @@ pub mod Heard
 pub mod Parts
 pub mod Names
 pub mod Listed
-pub mod Counted
 pub mod Laws
 pub mod Determined

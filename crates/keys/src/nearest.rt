@@ -1,7 +1,7 @@
 // The key of a tone that is nearest to a wanted one.
-use pool::pool::Tone;
 use crate::range::LOWEST;
 use crate::range::OCTAVE_KEY;
+use pool::pool::Tone;
 ghost use mathlib.Core.Path.{_≡_};
 ghost use mathlib.Core.Logic.{_⊎_};
 ghost use Prim.Native.Nat.{_+_, _-_, _*_, _≤_, _<_};

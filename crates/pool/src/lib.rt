@@ -1,3 +1,3 @@
 // The pool of a voicing: its tones, and their order.
-pub mod pool;
 pub mod order;
+pub mod pool;

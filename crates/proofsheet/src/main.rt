@@ -1,13 +1,13 @@
 // The engraver's proof sheet, row by row, as the library answers it. Crate `sheet` proves the first twelve rows.
 use answer::output::Output;
 use answer::refusal::Refusal;
+use inference::normalize::suffix;
+use libc::STDOUT_FILENO;
+use listing::search::listing;
 use notes::note::Note;
 use notes::note::NoteAnswer;
 use qualities::quality::QualityAnswer;
 use qualities::quality::quality;
-use inference::normalize::suffix;
-use libc::STDOUT_FILENO;
-use listing::search::listing;
 use spelling::tones::tones;
 use voicings::voicing::Bass;
 use voicings::voicing::Chord;

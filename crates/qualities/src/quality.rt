@@ -1,5 +1,6 @@
 // The quality of a set of pitch classes, and what the suffix needs of each quality, as the Rust's `chord/quality.rs` has
 // them. A set is a number, class k its bit worth 2^k; sets of intervals and of degrees are numbers of the same kind.
+use answer::refusal::Refusal;
 use intervals::interval::AUGMENTED_FIFTH;
 use intervals::interval::DIMINISHED_FIFTH;
 use intervals::interval::ELEVENTH;
@@ -13,7 +14,6 @@ use intervals::interval::SHARP_ELEVENTH;
 use intervals::interval::SHARP_NINTH;
 use intervals::interval::THIRTEENTH;
 use intervals::set::LAST_SET;
-use answer::refusal::Refusal;
 ghost use mathlib.Core.Path.{_≡_};
 ghost use Prim.Native.Nat.{_<_};
 ghost use Rattle.qualities.specs.Qualities.{qualityOf, qualityNumber, qualityAnswer};

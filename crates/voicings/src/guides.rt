@@ -1,9 +1,6 @@
 // Guides and tensions: which tones of the pool are placed between the bass and the lead.
-use keys::bits::in_set;
 use crate::offers::offered;
 use crate::offers::put_placed;
-use pool::pool::Pool;
-use keys::range::LIMIT;
 use intervals::interval::AUGMENTED_FIFTH;
 use intervals::interval::AUGMENTED_FOURTH;
 use intervals::interval::DIMINISHED_FIFTH;
@@ -23,6 +20,9 @@ use intervals::interval::SHARP_ELEVENTH;
 use intervals::interval::SHARP_NINTH;
 use intervals::interval::THIRTEENTH;
 use intervals::interval::UNISON;
+use keys::bits::in_set;
+use keys::range::LIMIT;
+use pool::pool::Pool;
 ghost use mathlib.Core.Path.{_≡_};
 ghost use Prim.Native.Nat.{_+_, _≤_};
 ghost use lib.ListN.{length};

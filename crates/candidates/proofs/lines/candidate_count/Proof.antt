@@ -2,7 +2,7 @@
 use mathlib.Core.Path.{_≡_, ap, sym, _∙_}
 use borrow.Author.Needs.{needs}
 use Rattle.intervals.specs.Sets.{classCount}
-use Rattle.candidates.proofs.Counted.{class-count}
+use Rattle.intervals.proofs.Counted.{class-count}
 use Rattle.candidates.proofs.lines.candidate_count.Statement.{statement}
 use Rattle.candidates.proofs.lines.candidate_count.Tie as tie
 
