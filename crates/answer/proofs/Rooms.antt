@@ -1,5 +1,4 @@
 -- What a reply comes to where its text has room, and where it has none.
---     Answered      an answer and a room at exit are what a reply and the room at entry say
 --     refused       a refusal leaves the room as it was
 --     refused-by    the same, where a refusal is what a call has to give
 --     no-room       a text longer than the room: refusal 7
@@ -13,14 +12,10 @@ use native.Mathlib.Numerals.{add-one}
 use lib.ListN.{length, take, drop, getD, set}
 use lib.Seq.{paste-suc}
 use borrow.Author.Tests.{le-leb, lt-leb}
-use Rattle.answer.specs.Replies.{Reply, refuse, text, outputOf, roomAfter}
+use Rattle.answer.specs.Replies.{Reply, refuse, text, outputOf, roomAfter, Answered}
 use Rattle.answer.specs.declared.refusal.Refusal.{Refusal}
 use Rattle.answer.specs.declared.refusal.Refusal.the-variants.{NoRoom}
-use Rattle.answer.specs.declared.output.Output.{Output}
 use Rattle.answer.specs.declared.output.Output.the-variants.{Written, Refused}
-
-abbrev pub Answered : Reply → List ℕ → Output → List ℕ → Type 0
-Answered reply room r left = (r ≡ outputOf reply room) × (left ≡ roomAfter reply room)
 
 pub refused : (why : Refusal) (room : List ℕ) → Answered (refuse why) room (Refused why) room
 unfolding outputOf roomAfter

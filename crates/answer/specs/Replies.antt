@@ -3,6 +3,8 @@
 --     fits         the text is no longer than the room
 --     outputOf     the answer: the refusal; the count of bytes written; or refusal 7, "output shorter than the whole answer"
 --     roomAfter    the room at exit: "a refusal alters no lent byte", and "bytes behind the written ones are unaltered"
+--     Answered     an answer and a room at exit are what a reply and the room at entry say
+use mathlib.Core.Path.{_≡_}
 use mathlib.Core.Bool.{Bool, cond}
 use mathlib.Core.List.{List, _++_}
 use Prim.Native.Nat.{ℕ}
@@ -27,3 +29,6 @@ outputOf (text t) room = cond (fits t room) (Written (length t)) (Refused NoRoom
 unfoldable pub roomAfter : Reply → List ℕ → List ℕ
 roomAfter (refuse why) room = room
 roomAfter (text t) room = cond (fits t room) (t ++ drop (length t) room) room
+
+abbrev pub Answered : Reply → List ℕ → Output → List ℕ → Type 0
+Answered reply room r left = (r ≡ outputOf reply room) × (left ≡ roomAfter reply room)

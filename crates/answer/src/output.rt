@@ -1,7 +1,6 @@
 // How an answer is written into the range that a caller lends: whole or not at all.
 use crate::refusal::Refusal;
-ghost use mathlib.Core.Path.{_≡_};
-ghost use Rattle.answer.specs.Replies.{text, outputOf, roomAfter};
+ghost use Rattle.answer.specs.Replies.{text, Answered};
 
 // What a call that writes answers: the count of bytes written, or why it wrote none.
 pub enum Output {
@@ -11,7 +10,7 @@ pub enum Output {
 
 // Writes the whole of `from` to the front of `out`, or refuses where there is no room for it.
 pub fn give(from: &[u8], out: &mut [u8]) -> Output
-    ensures { λ r. ⌜ (r ≡ outputOf (text (now (from .entry))) (now (out .entry))) × (now (out .exit) ≡ roomAfter (text (now (from .entry))) (now (out .entry))) ⌝ }
+    ensures { λ r. ⌜ Answered (text (now (from .entry))) (now (out .entry)) r (now (out .exit)) ⌝ }
 {
     if out.len() < from.len() {
         return Output::Refused(Refusal::NoRoom);

@@ -11,7 +11,7 @@ ghost use mathlib.Core.Bool.{true};
 ghost use mathlib.Core.List.{[], _++_};
 ghost use Prim.Native.Nat.{_+_, _%_, _<_, _≤_};
 ghost use lib.ListN.{length, take};
-ghost use Rattle.answer.specs.Replies.{text, outputOf, roomAfter};
+ghost use Rattle.answer.specs.Replies.{text, Answered};
 ghost use Rattle.intervals.specs.Sets.{has, classCount};
 ghost use Rattle.answer.specs.Written.{Writes};
 ghost use Rattle.inference.specs.Names.{nameOf, flats};
@@ -102,7 +102,7 @@ const ROOM: usize = 850;
 
 // The candidates of a list of keys, a line each.
 pub fn candidates(keys: &[u8], out: &mut [u8]) -> Output
-    ensures { λ r. ⌜ (r ≡ outputOf (text (candidatesOf flats (now (keys .entry)))) (now (out .entry))) × (now (out .exit) ≡ roomAfter (text (candidatesOf flats (now (keys .entry)))) (now (out .entry))) ⌝ }
+    ensures { λ r. ⌜ Answered (text (candidatesOf flats (now (keys .entry)))) (now (out .entry)) r (now (out .exit)) ⌝ }
 {
     let mut order = [0u8; 12];
     let found = find(keys, &mut order);

@@ -2,15 +2,19 @@
 -- quality number, or for a note 16 × letter + count + 6 (no accidental counts 0); a refusal comes back as minus its number").
 --     minus                minus a refusal's number, numbered as `number` says
 --     refusalNumber        a refusal, numbered as paper 01 has it
+--     HostAnswered         a number and a room at exit are what a reply and the room at entry say
 --     outputNumber, qualityNumber, noteNumber, noteAnswerNumber     the answers
 --     bassFrom, leadFrom   "There bass 255 means none, and a lead above 255 means none"
 --     chordFrom            a chord record of the host's numbers
 --     Fits                 an answer's count of bytes is one that a host's 64 bits hold
+use mathlib.Core.Path.{_≡_}
 use mathlib.Core.Bool.{cond}
+use mathlib.Core.List.{List}
 use Prim.Native.Nat.{ℕ, _+_, _*_, _^_, _<_}
 use lib.Dec.{eqb, leb}
 use lib.IntN.{ℤ, pos, negℤ, _+ℤ_}
 use Rattle.answer.specs.Refusals.{numberOf}
+use Rattle.answer.specs.Replies.{Reply, outputOf, roomAfter}
 use Rattle.answer.specs.declared.refusal.Refusal.{Refusal}
 use Rattle.answer.specs.declared.output.Output.{Output}
 use Rattle.answer.specs.declared.output.Output.the-variants as Output
@@ -36,6 +40,9 @@ refusalNumber why = minus numberOf why
 abbrev pub outputNumber : Output → ℤ
 outputNumber (Output.Written n) = pos n
 outputNumber (Output.Refused why) = refusalNumber why
+
+abbrev pub HostAnswered : Reply → List ℕ → ℤ → List ℕ → Type 0
+HostAnswered reply room r left = (r ≡ outputNumber (outputOf reply room)) × (left ≡ roomAfter reply room)
 
 abbrev pub qualityNumber : QualityAnswer → ℤ
 qualityNumber (Quality.Is q) = pos (Qualities.qualityNumber q)

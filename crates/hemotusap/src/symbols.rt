@@ -7,7 +7,7 @@ use listing::search::listing;
 use spelling::tones::tones;
 ghost use mathlib.Core.Path.{_≡_};
 ghost use lib.IntN.{pos};
-ghost use Rattle.answer.specs.Replies.{text, outputOf, roomAfter};
+ghost use Rattle.answer.specs.Replies.{text};
 ghost use Rattle.intervals.specs.Intervals.{degreeOf};
 ghost use Rattle.intervals.specs.Sets.{classCount};
 ghost use Rattle.inference.specs.Names.{flats};
@@ -16,32 +16,32 @@ ghost use Rattle.candidates.specs.Keys.{classSet};
 ghost use Rattle.candidates.specs.Candidates.{candidatesOf};
 ghost use Rattle.listing.specs.Listing.{listingOf};
 ghost use Rattle.spelling.specs.Tones.{tonesReply};
-ghost use Rattle.hemotusap.specs.Host.{outputNumber};
+ghost use Rattle.hemotusap.specs.Host.{HostAnswered};
 
 #[no_mangle]
 pub extern "C" fn hemotusap_suffix(set: u32, out: &mut [u8]) -> i64
-    ensures { λ r. ⌜ (r ≡ outputNumber (outputOf (suffixReply set) (now (out .entry)))) × (now (out .exit) ≡ roomAfter (suffixReply set) (now (out .entry))) ⌝ }
+    ensures { λ r. ⌜ HostAnswered (suffixReply set) (now (out .entry)) r (now (out .exit)) ⌝ }
 {
     written(suffix(set, out))
 }
 
 #[no_mangle]
 pub extern "C" fn hemotusap_listing(name: &[u8], out: &mut [u8]) -> i64
-    ensures { λ r. ⌜ (r ≡ outputNumber (outputOf (text (listingOf (now (name .entry)))) (now (out .entry)))) × (now (out .exit) ≡ roomAfter (text (listingOf (now (name .entry)))) (now (out .entry))) ⌝ }
+    ensures { λ r. ⌜ HostAnswered (text (listingOf (now (name .entry)))) (now (out .entry)) r (now (out .exit)) ⌝ }
 {
     written(listing(name, out))
 }
 
 #[no_mangle]
 pub extern "C" fn hemotusap_tones(root: u32, set: u32, out: &mut [u8]) -> i64
-    ensures { λ r. ⌜ (r ≡ outputNumber (outputOf (tonesReply degreeOf root set) (now (out .entry)))) × (now (out .exit) ≡ roomAfter (tonesReply degreeOf root set) (now (out .entry))) ⌝ }
+    ensures { λ r. ⌜ HostAnswered (tonesReply degreeOf root set) (now (out .entry)) r (now (out .exit)) ⌝ }
 {
     written(tones(root, set, out))
 }
 
 #[no_mangle]
 pub extern "C" fn hemotusap_candidates(codes: &[u8], out: &mut [u8]) -> i64
-    ensures { λ r. ⌜ (r ≡ outputNumber (outputOf (text (candidatesOf flats (now (codes .entry)))) (now (out .entry)))) × (now (out .exit) ≡ roomAfter (text (candidatesOf flats (now (codes .entry)))) (now (out .entry))) ⌝ }
+    ensures { λ r. ⌜ HostAnswered (text (candidatesOf flats (now (codes .entry)))) (now (out .entry)) r (now (out .exit)) ⌝ }
 {
     written(candidates(codes, out))
 }

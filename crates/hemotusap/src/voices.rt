@@ -5,10 +5,9 @@ use voicings::voicing::Chord;
 use voicings::voicing::Lead;
 use voicings::voicing::voicing;
 ghost use mathlib.Core.Path.{_≡_};
-ghost use Rattle.answer.specs.Replies.{outputOf, roomAfter};
 ghost use Rattle.keys.specs.Range.{lowestKey, highestKey};
 ghost use Rattle.voicings.specs.Voicing.{voicingReply};
-ghost use Rattle.hemotusap.specs.Host.{outputNumber, bassFrom, leadFrom, chordFrom};
+ghost use Rattle.hemotusap.specs.Host.{bassFrom, leadFrom, chordFrom, HostAnswered};
 
 // What the host gives for no bass.
 const NO_BASS: u32 = 255;
@@ -43,7 +42,7 @@ pub extern "C" fn hemotusap_voicing(
     lead: u32,
     out: &mut [u8],
 ) -> i64
-    ensures { λ r. ⌜ (r ≡ outputNumber (outputOf (voicingReply lowestKey highestKey (chordFrom root bass lead) (now (classes .entry)) (now (intervals .entry))) (now (out .entry)))) × (now (out .exit) ≡ roomAfter (voicingReply lowestKey highestKey (chordFrom root bass lead) (now (classes .entry)) (now (intervals .entry))) (now (out .entry))) ⌝ }
+    ensures { λ r. ⌜ HostAnswered (voicingReply lowestKey highestKey (chordFrom root bass lead) (now (classes .entry)) (now (intervals .entry))) (now (out .entry)) r (now (out .exit)) ⌝ }
 {
     let chord = Chord {
         root,

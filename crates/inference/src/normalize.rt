@@ -23,7 +23,7 @@ ghost use mathlib.Core.List.{_++_};
 ghost use Prim.Native.Nat.{_+_, _%_, _≤_, _<_, _^_};
 ghost use lib.Dec.{eqb};
 ghost use lib.ListN.{length};
-ghost use Rattle.answer.specs.Replies.{outputOf, roomAfter};
+ghost use Rattle.answer.specs.Replies.{Answered};
 ghost use Rattle.intervals.specs.Intervals.{numbered};
 ghost use Rattle.rules.specs.Classes.{intervalsIn};
 ghost use Rattle.rules.specs.Heading.{heading, sus};
@@ -40,7 +40,7 @@ const ROOM: usize = LONGEST + 8;
 
 // The suffix of a rooted set, written to the front of `out`.
 pub fn suffix(set: u32, out: &mut [u8]) -> Output
-    ensures { λ r. ⌜ (r ≡ outputOf (suffixReply set) (now (out .entry))) × (now (out .exit) ≡ roomAfter (suffixReply set) (now (out .entry))) ⌝ }
+    ensures { λ r. ⌜ Answered (suffixReply set) (now (out .entry)) r (now (out .exit)) ⌝ }
 {
     if !is_rooted(set) {
         return Output::Refused(Refusal::NotASet);

@@ -5,10 +5,9 @@ use answer::output::Output;
 use answer::output::give;
 use answer::word::put;
 use candidates::lines::candidates;
-ghost use mathlib.Core.Path.{_≡_};
 ghost use Prim.Native.Nat.{_≤_};
 ghost use lib.ListN.{length};
-ghost use Rattle.answer.specs.Replies.{text, outputOf, roomAfter};
+ghost use Rattle.answer.specs.Replies.{text, Answered};
 ghost use Rattle.inference.specs.Names.{flats};
 ghost use Rattle.line.specs.Replies.{codesText, lineText};
 
@@ -25,7 +24,7 @@ const STOP: u64 = 0x0200000000000a2e;
 
 // What is printed for a line, without the line's own end.
 pub fn reply(line: &[u8], out: &mut [u8]) -> Output
-    ensures { λ r. ⌜ (r ≡ outputOf (text (lineText flats (now (line .entry)))) (now (out .entry))) × (now (out .exit) ≡ roomAfter (text (lineText flats (now (line .entry)))) (now (out .entry))) ⌝ }
+    ensures { λ r. ⌜ Answered (text (lineText flats (now (line .entry)))) (now (out .entry)) r (now (out .exit)) ⌝ }
 {
     let bad = [b'?', b'\n'];
     if line.len() > LONGEST {
@@ -39,7 +38,7 @@ pub fn reply(line: &[u8], out: &mut [u8]) -> Output
 }
 
 fn reply_codes(codes: &[u8], out: &mut [u8]) -> Output
-    ensures { λ r. ⌜ (r ≡ outputOf (text (codesText flats (now (codes .entry)))) (now (out .entry))) × (now (out .exit) ≡ roomAfter (text (codesText flats (now (codes .entry)))) (now (out .entry))) ⌝ }
+    ensures { λ r. ⌜ Answered (text (codesText flats (now (codes .entry)))) (now (out .entry)) r (now (out .exit)) ⌝ }
 {
     let mut buffer = [0u8; ROOM];
     match candidates(codes, &mut buffer) {

@@ -6,7 +6,7 @@ ghost use mathlib.Core.Path.{_≡_};
 ghost use mathlib.Core.List.{[], _∷_};
 ghost use Prim.Native.Nat.{_+_, _/_, _%_, _<_, _≤_};
 ghost use lib.ListN.{length};
-ghost use Rattle.answer.specs.Replies.{text, outputOf, roomAfter};
+ghost use Rattle.answer.specs.Replies.{text, Answered};
 ghost use Rattle.answer.specs.Words.{same};
 ghost use Rattle.answer.specs.Written.{Writes};
 ghost use Rattle.rules.specs.Suffix.{suffixOf};
@@ -23,7 +23,7 @@ const ROOM: usize = 4096;
 
 // Every rooted set whose suffix is a text, two bytes each, big-endian, rising.
 pub fn listing(name: &[u8], out: &mut [u8]) -> Output
-    ensures { λ r. ⌜ (r ≡ outputOf (text (listingOf (now (name .entry)))) (now (out .entry))) × (now (out .exit) ≡ roomAfter (text (listingOf (now (name .entry)))) (now (out .entry))) ⌝ }
+    ensures { λ r. ⌜ Answered (text (listingOf (now (name .entry)))) (now (out .entry)) r (now (out .exit)) ⌝ }
 {
     if name.len() > LONGEST {
         return Output::Written(0);

@@ -7,7 +7,7 @@ ghost use mathlib.Core.Path.{_≡_};
 ghost use mathlib.Core.Bool.{true, cond};
 ghost use Prim.Native.Nat.{_<_, _≤_, _^_};
 ghost use lib.IntN.{pos, _-ℤ_};
-ghost use Rattle.answer.specs.Replies.{outputOf, roomAfter};
+ghost use Rattle.answer.specs.Replies.{Answered};
 ghost use Rattle.answer.specs.Words.{packed};
 ghost use Rattle.notes.specs.Notes.{countOf, noteOf, isNote, natural, semitone, spelled, getNote, semitoneAnswer, getNoteAnswer, transposeAnswer};
 ghost use Rattle.notes.specs.NoteText.{letterName, signs, noteName, noteReply};
@@ -245,7 +245,7 @@ impl Note {
     }
 
     pub fn text(self, out: &mut [u8]) -> Output
-        ensures { λ r. ⌜ (r ≡ outputOf (noteReply signs self) (now (out .entry))) × (now (out .exit) ≡ roomAfter (noteReply signs self) (now (out .entry))) ⌝ }
+        ensures { λ r. ⌜ Answered (noteReply signs self) (now (out .entry)) r (now (out .exit)) ⌝ }
     {
         if !is_note(self) {
             return Output::Refused(Refusal::BadNote);

@@ -15,7 +15,7 @@ ghost use mathlib.Core.Path.{_≡_};
 ghost use mathlib.Core.Bool.{true};
 ghost use Prim.Native.Nat.{_+_, _*_, _<_, _≤_, _^_};
 ghost use lib.ListN.{length};
-ghost use Rattle.answer.specs.Replies.{outputOf, roomAfter};
+ghost use Rattle.answer.specs.Replies.{Answered};
 ghost use Rattle.answer.specs.Words.{packed};
 ghost use Rattle.answer.specs.Written.{Writes};
 ghost use Rattle.intervals.specs.Intervals.{numbered, degreeOf};
@@ -111,7 +111,7 @@ fn put_tones(buffer: &mut [u8], root: Note, set: u32) -> usize
 // The tones of a rooted set on a root class, written to the front of `out`. The first has a space before it too, which
 // is not given.
 pub fn tones(root: u32, set: u32, out: &mut [u8]) -> Output
-    ensures { λ r. ⌜ (r ≡ outputOf (tonesReply degreeOf root set) (now (out .entry))) × (now (out .exit) ≡ roomAfter (tonesReply degreeOf root set) (now (out .entry))) ⌝ }
+    ensures { λ r. ⌜ Answered (tonesReply degreeOf root set) (now (out .entry)) r (now (out .exit)) ⌝ }
 {
     if !is_rooted(set) {
         return Output::Refused(Refusal::NotASet);

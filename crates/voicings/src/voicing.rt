@@ -15,7 +15,7 @@ ghost use mathlib.Core.Path.{_≡_};
 ghost use mathlib.Core.Bool.{true};
 ghost use Prim.Native.Nat.{_+_, _≤_};
 ghost use lib.ListN.{length, take};
-ghost use Rattle.answer.specs.Replies.{outputOf, roomAfter};
+ghost use Rattle.answer.specs.Replies.{Answered};
 ghost use Rattle.answer.specs.Written.{Writes};
 ghost use Rattle.keys.specs.Range.{lowestKey, highestKey};
 ghost use Rattle.pool.specs.Pool.{tonesIn, tonesOf, IsPool};
@@ -114,7 +114,7 @@ fn put_above(buffer: &mut [u8], place: usize, led: Led) -> usize
 
 // The voicing of a chord and its pairs, of which as many are used as the shorter range has.
 pub fn voicing(chord: Chord, classes: &[u8], intervals: &[u8], out: &mut [u8]) -> Output
-    ensures { λ r. ⌜ (r ≡ outputOf (voicingReply lowestKey highestKey chord (now (classes .entry)) (now (intervals .entry))) (now (out .entry))) × (now (out .exit) ≡ roomAfter (voicingReply lowestKey highestKey chord (now (classes .entry)) (now (intervals .entry))) (now (out .entry))) ⌝ }
+    ensures { λ r. ⌜ Answered (voicingReply lowestKey highestKey chord (now (classes .entry)) (now (intervals .entry))) (now (out .entry)) r (now (out .exit)) ⌝ }
 {
     let root = chord.root;
     let bass = chord.bass;

@@ -5,8 +5,8 @@ use Prim.Native.Nat.{ℕ}
 use native.Mathlib.Omega.{arith}
 use denote.Ref.{now}
 use borrow.Author.Needs.{needs}
-use Rattle.answer.specs.Replies.{Reply, text}
-use Rattle.answer.proofs.Rooms.{Answered, refused-by}
+use Rattle.answer.specs.Replies.{Reply, text, Answered}
+use Rattle.answer.proofs.Rooms.{refused-by}
 use Rattle.answer.proofs.Tests.{refused, admitted}
 use Rattle.answer.proofs.Writing.{counted, within}
 use Rattle.intervals.specs.Sets.{isRooted}

@@ -8,8 +8,8 @@ use native.Mathlib.Omega.{arith}
 use lib.ListN.{length, take}
 use denote.Ref.{now}
 use borrow.Author.Needs.{needs}
-use Rattle.answer.specs.Replies.{Reply, text}
-use Rattle.answer.proofs.Rooms.{Answered, refused-by}
+use Rattle.answer.specs.Replies.{Reply, text, Answered}
+use Rattle.answer.proofs.Rooms.{refused-by}
 use Rattle.answer.proofs.Tests.{refused, admitted}
 use Rattle.intervals.specs.Sets.{isRooted}
 use Rattle.intervals.proofs.Rooted.{rooted-small, rooted-odd}

@@ -9,9 +9,9 @@ use lib.ListN.{length, take, replicate}
 use lib.Seq.{take-all}
 use denote.Ref.{now}
 use borrow.Author.Needs.{needs}
-use Rattle.answer.specs.Replies.{Reply, text}
+use Rattle.answer.specs.Replies.{Reply, text, Answered}
 use Rattle.answer.specs.Written.{Writes}
-use Rattle.answer.proofs.Rooms.{Answered, refused-by}
+use Rattle.answer.proofs.Rooms.{refused-by}
 use Rattle.answer.proofs.Tests.{left, right, is-true, said, refused, admitted}
 use Rattle.answer.proofs.Writing.{also, same-text, counted, within}
 use Rattle.pool.specs.declared.pool.Tone.{Tone}
