@@ -1,7 +1,7 @@
 -- What stands before the parentheses of a suffix: paper 01, "The suffix (002, 003)" ("quality with modifier, worded as 002 words
 -- them, `sus`").
 --     wording         a quality's word, up to where its modifier stands
---     modified        the modifier, or what 002 writes where there is none; "Maj, Mi and Mi6 show no modifier"
+--     modified        the modifier, where the quality shows one, or what 002 writes where there is none
 --     isSixth, nine   "A 9 among the adds of Maj6 or Mi6 goes in behind the first `6`"
 --     heading         quality with modifier
 --     sus             `sus`, or nothing
@@ -41,20 +41,17 @@ abbrev pub orElse : String → Numbered → List ℕ
 orElse without (Is i) = notationOf i
 orElse without Nothing = bytes without
 
+-- "Maj, Mi and Mi6 show no modifier", and the diminished qualities have none
+abbrev pub showsModifier : ChordQuality → Bool
+showsModifier q = isOneOf q (Maj6 ∷ Maj7 ∷ Dominant7 ∷ Mi7 ∷ MiMaj7 ∷ Augmented ∷ [])
+
+-- what 002 writes where there is none
+abbrev pub unmodified : ChordQuality → List ℕ
+unmodified q = cond (isOneOf q (Maj7 ∷ Dominant7 ∷ Mi7 ∷ MiMaj7 ∷ [])) (bytes "7") []
+
 abbrev pub modified : ChordQuality → Numbered → List ℕ
-modified Maj m = []
-modified Maj6 m = orElse "" m
-modified Maj7 m = orElse "7" m
-modified Dominant7 m = orElse "7" m
-modified Mi m = []
-modified Mi6 m = []
-modified Mi7 m = orElse "7" m
-modified MiMaj7 m = orElse "7" m
-modified Augmented m = orElse "" m
-modified Diminished m = []
-modified Diminished7 m = []
-modified Power m = []
-modified Bass m = []
+modified q (Is i) = cond (showsModifier q) (notationOf i) []
+modified q Nothing = unmodified q
 
 abbrev pub isSixth : ChordQuality → Bool
 isSixth q = isOneOf q (Maj6 ∷ Mi6 ∷ [])

@@ -1,0 +1,4 @@
+pub mod Shown
+pub mod Described
+pub mod Replied
+pub mod Determined

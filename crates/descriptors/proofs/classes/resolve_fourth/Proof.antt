@@ -1,0 +1,14 @@
+-- `descriptors::classes::resolve_fourth` meets its contract: the tests that led to a return say what the chain comes to.
+use borrow.Author.Needs.{needs}
+use Rattle.rules.proofs.Agree.{yes, no-then}
+use Rattle.rules.proofs.Resolved.{fourth-told}
+use Rattle.descriptors.proofs.classes.resolve_fourth.Statement.{statement}
+use Rattle.descriptors.proofs.classes.resolve_fourth.Tie as tie
+
+pub resolve-fourth-spec : {M : Type 1} → statement M
+resolve-fourth-spec =
+    tie.close
+    (tie.spec
+    (λ c. fourth-told _ _ (search needs) (search yes))
+    (λ c. fourth-told _ _ (search needs) (search (yes, no-then)))
+    (λ c. fourth-told _ _ (search needs) (search no-then)))

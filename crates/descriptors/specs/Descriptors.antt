@@ -1,0 +1,34 @@
+-- A rooted set described: paper 01, "Sets and intervals" and "The suffix (002, 003)".
+use mathlib.Core.Bool.{cond}
+use mathlib.Core.List.{_++_}
+use Prim.Native.Nat.{ℕ}
+use Rattle.answer.specs.declared.refusal.Refusal.the-variants.{NotASet}
+use Rattle.intervals.specs.Sets.{isRooted}
+use Rattle.intervals.specs.Intervals.{setOf}
+use Rattle.rules.specs.Classes.{intervalsOf}
+use Rattle.rules.specs.Parts.{suffixQuality, isSus, alterationsOf, lastAdd, omitThird, omitFifth}
+use Rattle.rules.specs.Stack.{modifierOf, addsOf}
+use Rattle.descriptors.specs.declared.descriptor.Descriptor.{Descriptor}
+use Rattle.descriptors.specs.declared.descriptor.DescriptorAnswer.{DescriptorAnswer}
+use Rattle.descriptors.specs.declared.descriptor.DescriptorAnswer.the-variants.{Is, Refused}
+
+-- its intervals, the quality that it shows, and what a suffix names of it, sets of intervals with a bit for each one's number
+unfoldable pub descriptorOf : ℕ → Descriptor
+descriptorOf s =
+    let ints = intervalsOf s in
+    let q = suffixQuality s in
+    record {
+      set = s;
+      intervals = setOf ints;
+      quality = q;
+      sus = isSus s;
+      modifier = modifierOf q ints;
+      alterations = setOf (alterationsOf q ints);
+      adds = setOf (addsOf q ints);
+      third = setOf (lastAdd s);
+      omits = setOf (omitThird s ++ omitFifth s);
+    }
+
+-- what a call answers: the descriptor, or refusal 1
+unfoldable pub descriptorAnswer : ℕ → DescriptorAnswer
+descriptorAnswer s = cond (isRooted s) (Is (descriptorOf s)) (Refused NotASet)
