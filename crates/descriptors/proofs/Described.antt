@@ -3,47 +3,46 @@
 --     described    at a rooted set the descriptor
 use mathlib.Core.Path.{_≡_, ap, ap₂, _∙_}
 use mathlib.Core.Bool.{Bool}
-use mathlib.Core.List.{map}
 use Prim.Native.Nat.{ℕ, _%_, _<_}
 use lib.Bits.{bitAnd, bitOr}
 use lib.Dec.{eqb}
-use Rattle.intervals.specs.Sets.{bits}
-use Rattle.intervals.specs.Intervals.{numericOf, setOf}
+use Rattle.intervals.specs.Intervals.{setOf}
 use Rattle.intervals.specs.declared.interval.Numbered.{Numbered}
 use Rattle.qualities.specs.Masks.{ownBits, alterationBits, extensionBits, stackBits}
 use Rattle.qualities.specs.declared.quality.ChordQuality.{ChordQuality}
-use Rattle.rules.specs.Classes.{intervalsOf}
+use Rattle.intervals.specs.declared.interval.Interval.the-variants.{Ninth}
+use Rattle.rules.specs.Classes.{only, intervalsOf}
 use Rattle.rules.specs.Parts.{suffixQuality, isSus, lastAdd, omitFifth}
-use Rattle.rules.specs.Stack.{ownSeventh, isDiminished, unstackedOf, modifierOf, addsOf}
+use Rattle.rules.specs.Stack.{unstackedOf, modifierOf, addsOf}
+use Rattle.rules.specs.Heading.{nine}
 use Rattle.rules.proofs.Agree.{test}
-use Rattle.rules.proofs.Tested.{extensionsFrom, unstackedFrom, modifierFrom, addsFrom, lastFrom}
+use Rattle.rules.proofs.Tested.{extensionsFrom, unstackedFrom, modifierFrom, addsFrom, nineFrom, lastFrom}
 use Rattle.rules.proofs.Read.{sus-told, alterations, extensions, unstacked}
-use Rattle.rules.proofs.Added.{modifier, adds, last-add}
+use Rattle.rules.proofs.Added.{modifier, adds, nine-behind, last-add}
 use Rattle.rules.proofs.Parted.{omit-third-told, omit-fifth, omits}
 use Rattle.descriptors.specs.declared.kinds.Kind.{Kind}
 use Rattle.descriptors.specs.declared.descriptor.Descriptor.{Descriptor}
 use Rattle.descriptors.specs.Kinds.{kindOf}
+use Rattle.descriptors.specs.Split.{missedBy, Splits}
 use Rattle.descriptors.specs.Descriptors.{descriptorOf}
 
--- the stack's gaps, of a quality's own degree and stack
-abbrev pub missedBy : ChordQuality → ℕ → ℕ → ℕ
-missedBy q a e = unstackedFrom (bitOr a e) (bits (map numericOf (ownSeventh q))) (stackBits q)
-
-pub split : (q : ChordQuality) (row : Kind) → row ≡ kindOf q → (a e u stack own : ℕ) (m : Numbered) (found : ℕ)
+pub split : (q : ChordQuality) (row : Kind) → row ≡ kindOf q → (a e u stack own : ℕ) (m : Numbered) (found nine : ℕ)
     → u ≡ unstackedFrom (bitOr a e) (row .3) stack → stack ≡ stackBits q → own ≡ ownBits q
-    → m ≡ modifierFrom (row .5) e u → found ≡ addsFrom (row .5) e u own
-    → (m ≡ modifierFrom (isDiminished q) e (missedBy q a e)) × (found ≡ addsFrom (isDiminished q) e (missedBy q a e) (ownBits q))
-split q row t a e u stack own m found hu hs ho hm hf =
-    let missed : u ≡ missedBy q a e = hu ∙ ap₂ (unstackedFrom (bitOr a e)) (ap (λ (k : Kind). k .3) t) hs in (
-      hm ∙ ap₂ (λ (d : Bool) (x : ℕ). modifierFrom d e x) (ap (λ (k : Kind). k .5) t) missed,
-      hf ∙ ap (λ (x : ℕ). addsFrom (row .5) e u x) ho ∙ ap₂ (λ (d : Bool) (x : ℕ). addsFrom d e x (ownBits q)) (ap (λ (k : Kind). k .5) t) missed,
-    )
+    → m ≡ modifierFrom (row .5) e u → found ≡ addsFrom (row .5) e u own → nine ≡ nineFrom (row .4) found → Splits q a e m found nine
+split q row t a e u stack own m found nine hu hs ho hm hf hn =
+    let missed : u ≡ missedBy q a e = hu ∙ ap₂ (unstackedFrom (bitOr a e)) (ap (λ (k : Kind). k .3) t) hs in
+    let diminished = ap (λ (k : Kind). k .5) t in
+    record {
+      stacked = hm ∙ ap₂ (λ (d : Bool) (x : ℕ). modifierFrom d e x) diminished missed;
+      added = hf ∙ ap (λ (x : ℕ). addsFrom (row .5) e u x) ho ∙ ap₂ (λ (d : Bool) (x : ℕ). addsFrom d e x (ownBits q)) diminished missed;
+      behind = hn ∙ ap (λ (k : Kind). nineFrom (k .4) found) t;
+    }
 
 module _ (s : ℕ) (small : s < 4096) (odd : s % 2 ≡ 1) where
   -- of its intervals and quality, the masks, what the steps gave
-  pub described : (i : ℕ) (q : ChordQuality) (altered extended e : ℕ) (m : Numbered) (found third noThird noFifth : ℕ)
+  pub described : (i : ℕ) (q : ChordQuality) (altered extended e : ℕ) (m : Numbered) (found behind third noThird noFifth : ℕ)
       → i ≡ setOf (intervalsOf s) → q ≡ suffixQuality s → altered ≡ alterationBits q → extended ≡ extensionBits q → e ≡ extensionsFrom i extended
-      → (m ≡ modifierFrom (isDiminished q) e (missedBy q (bitAnd i altered) e)) × (found ≡ addsFrom (isDiminished q) e (missedBy q (bitAnd i altered) e) (ownBits q))
+      → Splits q (bitAnd i altered) e m found behind
       → third ≡ lastFrom (eqb (bitAnd s 40) 32) i → noThird ≡ test (bitAnd s 56) 0 16 0 → noFifth ≡ test (bitAnd i 2098048) 0 256 0
       → _≡_ {A = Descriptor}
       record {
@@ -54,18 +53,20 @@ module _ (s : ℕ) (small : s < 4096) (odd : s % 2 ≡ 1) where
         modifier = m;
         alterations = bitAnd i altered;
         adds = found;
+        nine = behind;
         third = third;
         omits = bitOr noThird noFifth;
       }
       (descriptorOf s)
   unfolding descriptorOf
-  described i q altered extended e m found third noThird noFifth hi hq ha hx he hs ht ho hf =
+  described i q altered extended e m found behind third noThird noFifth hi hq ha hx he hs ht ho hf =
       let als = ap₂ bitAnd hi (ha ∙ ap alterationBits hq) ∙ alterations s small odd in
       let exs = he ∙ ap₂ extensionsFrom hi (hx ∙ ap extensionBits hq) ∙ extensions s small odd in
       let missed : missedBy q (bitAnd i altered) e ≡ setOf (unstackedOf (suffixQuality s) (intervalsOf s)) = rw (als, exs, hq) (unstacked s small odd) in
-      let last : m ≡ modifierOf (suffixQuality s) (intervalsOf s) = hs .0 ∙ rw (missed, exs, hq) (modifier s small odd) in
-      let added : found ≡ setOf (addsOf (suffixQuality s) (intervalsOf s)) = hs .1 ∙ rw (missed, exs, hq) (adds s small odd) in
+      let last : m ≡ modifierOf (suffixQuality s) (intervalsOf s) = hs .stacked ∙ rw (missed, exs, hq) (modifier s small odd) in
+      let added : found ≡ setOf (addsOf (suffixQuality s) (intervalsOf s)) = hs .added ∙ rw (missed, exs, hq) (adds s small odd) in
+      let nines : behind ≡ setOf (only (nine (suffixQuality s) (addsOf (suffixQuality s) (intervalsOf s))) Ninth) = hs .behind ∙ rw (added, hq) (nine-behind s small odd) in
       let thirds : third ≡ setOf (lastAdd s) = ht ∙ rw (sus-told s small odd, hi) (last-add s small odd) in
       let fifths : noFifth ≡ setOf (omitFifth s) = hf ∙ rw hi (omit-fifth s small odd) in
       let omitted = ap₂ bitOr (omit-third-told noThird s small odd ho) fifths ∙ omits s small odd in
-      rw (als, last, added, thirds, omitted, sus-told s small odd, hi, hq)
+      rw (als, last, nines, added, thirds, omitted, sus-told s small odd, hi, hq)

@@ -5,9 +5,11 @@ use Prim.Native.Nat.{ℕ}
 use Rattle.answer.specs.declared.refusal.Refusal.the-variants.{NotASet}
 use Rattle.intervals.specs.Sets.{isRooted}
 use Rattle.intervals.specs.Intervals.{setOf}
-use Rattle.rules.specs.Classes.{intervalsOf}
+use Rattle.intervals.specs.declared.interval.Interval.the-variants.{Ninth}
+use Rattle.rules.specs.Classes.{only, intervalsOf}
 use Rattle.rules.specs.Parts.{suffixQuality, isSus, alterationsOf, lastAdd, omitThird, omitFifth}
 use Rattle.rules.specs.Stack.{modifierOf, addsOf}
+use Rattle.rules.specs.Heading.{nine}
 use Rattle.descriptors.specs.declared.descriptor.Descriptor.{Descriptor}
 use Rattle.descriptors.specs.declared.descriptor.DescriptorAnswer.{DescriptorAnswer}
 use Rattle.descriptors.specs.declared.descriptor.DescriptorAnswer.the-variants.{Is, Refused}
@@ -25,6 +27,7 @@ descriptorOf s =
       modifier = modifierOf q ints;
       alterations = setOf (alterationsOf q ints);
       adds = setOf (addsOf q ints);
+      nine = setOf (only (nine q (addsOf q ints)) Ninth);
       third = setOf (lastAdd s);
       omits = setOf (omitThird s ++ omitFifth s);
     }

@@ -27,18 +27,15 @@ use intervals::set::is_rooted;
 use qualities::quality::ChordQuality;
 use qualities::quality::QualityAnswer;
 ghost use mathlib.Core.Path.{_≡_};
-ghost use mathlib.Core.List.{map};
 ghost use Prim.Native.Nat.{_<_, _%_};
-ghost use lib.Bits.{bitAnd, bitOr};
-ghost use Rattle.intervals.specs.Sets.{bits};
-ghost use Rattle.intervals.specs.Intervals.{numericOf, setOf};
-ghost use Rattle.qualities.specs.Masks.{ownBits, stackBits};
+ghost use lib.Bits.{bitAnd};
+ghost use Rattle.intervals.specs.Intervals.{setOf};
 ghost use Rattle.rules.specs.Classes.{intervalsOf};
 ghost use Rattle.rules.specs.Parts.{withThird, suffixQuality};
-ghost use Rattle.rules.specs.Stack.{isDiminished, ownSeventh};
 ghost use Rattle.rules.proofs.Agree.{test};
-ghost use Rattle.rules.proofs.Tested.{extensionsFrom, unstackedFrom, modifierFrom, addsFrom, lastFrom};
+ghost use Rattle.rules.proofs.Tested.{extensionsFrom, unstackedFrom, modifierFrom, addsFrom, nineFrom, lastFrom};
 ghost use Rattle.descriptors.specs.Descriptors.{descriptorAnswer};
+ghost use Rattle.descriptors.specs.Split.{Splits};
 
 const THIRDS: u32 = MINOR_THIRD | MAJOR_THIRD;
 
@@ -52,7 +49,7 @@ const DEGREE_11: u32 = 1 << 11;
 
 const DEGREE_13: u32 = 1 << 13;
 
-// All that a suffix names of a rooted set. The third is the major third under sus, the last add.
+// All that a suffix names of a rooted set. Of the adds, the nine is the one that goes in behind the `6`; the third, under sus, is the last.
 pub struct Descriptor {
     pub set: u32,
     pub intervals: u32,
@@ -61,6 +58,7 @@ pub struct Descriptor {
     pub modifier: Numbered,
     pub alterations: u32,
     pub adds: u32,
+    pub nine: u32,
     pub third: u32,
     pub omits: u32,
 }
@@ -70,10 +68,11 @@ pub enum DescriptorAnswer {
     Refused(Refusal),
 }
 
-// What the extensions become: the last that is stacked, and the adds.
+// What the extensions become: the last that is stacked, the adds, and of these the 9 behind the `6`.
 pub struct Split {
     pub modifier: Numbered,
     pub adds: u32,
+    pub nine: u32,
 }
 
 fn shown_quality(set: u32, intervals: u32) -> ChordQuality
@@ -151,16 +150,28 @@ fn adds(diminished: bool, extensions: u32, unstacked: u32, own: u32) -> u32
     extensions & (unstacked & !(own / CLASS_9 % 2 * THIRTEENTH) | MAJOR_SEVENTH)
 }
 
+// The 9 among the adds of Maj6 or Mi6, which goes in behind the `6`.
+fn nine_behind_six(sixth: bool, adds: u32) -> u32
+    ensures { λ r. ⌜ r ≡ nineFrom sixth adds ⌝ }
+{
+    if sixth {
+        return adds & NINTH;
+    }
+    0
+}
+
 // For both diminished qualities every extension is an add. Of the others one is the modifier where every member of the stack up to its degree
 // is there, the last of several, and an add where not, unless its class is the quality's own.
 fn split_extensions(quality: ChordQuality, alterations: u32, extensions: u32) -> Split
-    ensures { λ r. ⌜ (r .modifier ≡ modifierFrom (isDiminished quality) extensions (unstackedFrom (bitOr alterations extensions) (bits (map numericOf (ownSeventh quality))) (stackBits quality))) × (r .adds ≡ addsFrom (isDiminished quality) extensions (unstackedFrom (bitOr alterations extensions) (bits (map numericOf (ownSeventh quality))) (stackBits quality)) (ownBits quality)) ⌝ }
+    ensures { λ r. ⌜ Splits quality alterations extensions (r .modifier) (r .adds) (r .nine) ⌝ }
 {
     let kind = kind_of(quality);
     let missed = unstacked(alterations | extensions, kind.3, quality.extension_stack());
+    let added = adds(kind.5, extensions, missed, quality.self_mask());
     Split {
         modifier: modifier(kind.5, extensions, missed),
-        adds: adds(kind.5, extensions, missed, quality.self_mask()),
+        adds: added,
+        nine: nine_behind_six(kind.4, added),
     }
 }
 
@@ -215,6 +226,7 @@ pub fn describe(set: u32) -> DescriptorAnswer
         modifier,
         alterations,
         adds: split.adds,
+        nine: split.nine,
         third: last_add(sus, found),
         omits: omitted_third(set) | omitted_fifth(found),
     })

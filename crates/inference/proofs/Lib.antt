@@ -1,10 +1,8 @@
 pub mod Named
 pub mod First
 pub mod Texts
-pub mod Readings
-pub mod Shown
+pub mod Described
 pub mod Turn
 pub mod Listed
-pub mod Headed
 pub mod Replied
 pub mod Determined

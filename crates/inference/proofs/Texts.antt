@@ -1,6 +1,7 @@
 -- The texts of a suffix are short.
 use mathlib.Core.Bool.{Bool, true, false, cond}
-use mathlib.Core.List.{[]}
+use mathlib.Core.List.{List, [], _∷_}
+use Prim.Native.Nat.{ℕ}
 use lib.Dec.{T}
 use Rattle.answer.specs.Words.{bytes}
 use Rattle.answer.proofs.Digits.{areBytes, isShort}
@@ -11,10 +12,11 @@ use Rattle.intervals.specs.declared.interval.Numbered.{Numbered}
 use Rattle.intervals.specs.declared.interval.Numbered.the-variants.{Is, Nothing}
 use Rattle.qualities.specs.declared.quality.ChordQuality.{ChordQuality}
 use Rattle.qualities.specs.declared.quality.ChordQuality.the-variants.{Maj, Maj6, Maj7, Dominant7, Mi, Mi6, Mi7, MiMaj7, Augmented, Diminished, Diminished7, Power, Bass}
-use Rattle.rules.specs.Heading.{wording, modified}
-use Rattle.inference.specs.declared.wording.Carried.{Carried}
-use Rattle.inference.specs.declared.wording.Carried.the-variants as Carries
-use Rattle.inference.specs.Carried.{carriedText}
+use Rattle.rules.specs.Stack.{isOneOf}
+use Rattle.rules.specs.Heading.{wording, orElse, showsModifier, modified}
+use Rattle.inference.specs.declared.wording.Prefix.{Prefix}
+use Rattle.inference.specs.declared.wording.Prefix.the-variants as Prefixes
+use Rattle.inference.specs.Prefixes.{prefixText}
 
 pub notation-short : (i : Interval) → T (isShort (notationOf i))
 unfolding bytes areBytes isShort
@@ -58,31 +60,20 @@ wording-short Diminished7 = tt
 wording-short Power = tt
 wording-short Bass = tt
 
-or-seven-short : (m : Numbered) → T (isShort (modified Maj7 m))
-unfolding bytes areBytes isShort
-or-seven-short (Is i) = notation-short i
-or-seven-short Nothing = tt
+chosen-short : (b : Bool) (t : List ℕ) → T (isShort t) → T (isShort (cond b t []))
+unfolding areBytes isShort
+chosen-short true t h = h
+chosen-short false t h = tt
 
-pub or-nothing-short : (m : Numbered) → T (isShort (modified Maj6 m))
+pub or-nothing-short : (m : Numbered) → T (isShort (orElse "" m))
 unfolding bytes areBytes isShort
 or-nothing-short (Is i) = notation-short i
 or-nothing-short Nothing = tt
 
 pub modified-short : (q : ChordQuality) (m : Numbered) → T (isShort (modified q m))
-unfolding areBytes isShort
-modified-short Maj m = tt
-modified-short Maj6 m = or-nothing-short m
-modified-short Maj7 m = or-seven-short m
-modified-short Dominant7 m = or-seven-short m
-modified-short Mi m = tt
-modified-short Mi6 m = tt
-modified-short Mi7 m = or-seven-short m
-modified-short MiMaj7 m = or-seven-short m
-modified-short Augmented m = or-nothing-short m
-modified-short Diminished m = tt
-modified-short Diminished7 m = tt
-modified-short Power m = tt
-modified-short Bass m = tt
+unfolding bytes areBytes isShort
+modified-short q (Is i) = chosen-short (showsModifier q) (notationOf i) (notation-short i)
+modified-short q Nothing = chosen-short (isOneOf q (Maj7 ∷ Dominant7 ∷ Mi7 ∷ MiMaj7 ∷ [])) (bytes "7") tt
 
 pub opening-short : (b : Bool) → T (isShort (cond b (bytes "(") (bytes ",")))
 unfolding bytes areBytes isShort
@@ -104,8 +95,8 @@ unfolding bytes areBytes isShort
 sus-short true = tt
 sus-short false = tt
 
-pub carried-short : (w : Carried) → T (isShort (carriedText w))
+pub prefix-short : (w : Prefix) → T (isShort (prefixText w))
 unfolding bytes areBytes isShort
-carried-short Carries.Nothing = tt
-carried-short Carries.Add = tt
-carried-short Carries.Omit = tt
+prefix-short Prefixes.None = tt
+prefix-short Prefixes.Add = tt
+prefix-short Prefixes.Omit = tt

@@ -17,31 +17,31 @@ use Rattle.intervals.specs.Intervals.{numbered}
 use Rattle.rules.specs.Classes.{intervalsIn}
 use Rattle.rules.specs.Suffix.{worded, listed}
 use Rattle.answer.specs.Written.{Writes}
-use Rattle.inference.specs.Carried.{carriedText, part}
-use Rattle.inference.specs.declared.wording.Carried.{Carried}
-use Rattle.inference.specs.declared.wording.Carried.the-variants as Carries
+use Rattle.inference.specs.Prefixes.{prefixText, part}
+use Rattle.inference.specs.declared.wording.Prefix.{Prefix}
+use Rattle.inference.specs.declared.wording.Prefix.the-variants as Prefixes
 use Rattle.inference.proofs.First.{First, lowest-of, bit, none-in}
 use Rattle.answer.proofs.Writing.{nothing, also}
 
-abbrev pub textOf : ℕ → ℕ → Carried → ℕ → List ℕ
-textOf at start carried left = listed (eqb at start) (worded (carriedText carried) (intervalsIn left))
+abbrev pub textOf : ℕ → ℕ → Prefix → ℕ → List ℕ
+textOf at start prefix left = listed (eqb at start) (worded (prefixText prefix) (intervalsIn left))
 
-pub record Turn (l₀ : List ℕ) (from start set : ℕ) (first : Carried) (l : List ℕ) (at left : ℕ) (carried : Carried) : Type 0 where
+pub record Turn (l₀ : List ℕ) (from start set : ℕ) (first : Prefix) (l : List ℕ) (at left : ℕ) (prefix : Prefix) : Type 0 where
   pub done : List ℕ
   pub wrote : Writes l₀ from done at l
-  pub whole : done ++ textOf at start carried left ≡ textOf from start first set
+  pub whole : done ++ textOf at start prefix left ≡ textOf from start first set
   pub small : left < 2 ^ 23
   pub behind : start ≤ at
   pub same : length l ≡ length l₀
 
-pub begin : (l : List ℕ) (from start set : ℕ) (first : Carried) → set < 2 ^ 23 → start ≤ from → Turn l from start set first l from set first
+pub begin : (l : List ℕ) (from start set : ℕ) (first : Prefix) → set < 2 ^ 23 → start ≤ from → Turn l from start set first l from set first
 begin l from start set first h b = record { done = []; wrote = nothing l from; whole = refl; small = h; behind = b; same = refl }
 
-module _ (l₀ : List ℕ) (from start set : ℕ) (first : Carried) (l : List ℕ) (at left : ℕ) (carried : Carried) (t : Turn l₀ from start set first l at left carried) where
+module _ (l₀ : List ℕ) (from start set : ℕ) (first : Prefix) (l : List ℕ) (at left : ℕ) (prefix : Prefix) (t : Turn l₀ from start set first l at left prefix) where
   pub end : left ≡ 0 → Writes l₀ from (textOf from start first set) at l
   unfolding worded listed
   end e =
-      let none : textOf at start carried left ≡ [] = rw (e, none-in) in
+      let none : textOf at start prefix left ≡ [] = rw (e, none-in) in
       let all : t .done ≡ textOf from start first set = sym (append-nil (t .done)) ∙ ap (λ (x : List ℕ). t .done ++ x) (sym none) ∙ t .whole in
       subst (λ (x : List ℕ). Writes l₀ from x at l) all (t .wrote)
 
@@ -50,16 +50,16 @@ module _ (l₀ : List ℕ) (from start set : ℕ) (first : Carried) (l : List �
     f = lowest-of left some (t .small)
 
     abbrev pub here : List ℕ
-    here = part (eqb at start) carried (numbered (trailingZeros 32 left))
+    here = part (eqb at start) prefix (numbered (trailingZeros 32 left))
 
     -- what is left to write begins with the part of the first interval
-    split : textOf at start carried left ≡ here ++ listed false (worded [] (intervalsIn (left - 2 ^ trailingZeros 32 left)))
+    split : textOf at start prefix left ≡ here ++ listed false (worded [] (intervalsIn (left - 2 ^ trailingZeros 32 left)))
     unfolding worded listed
     split = rw (f .rest, f .there) (simp append-assoc)
 
     pub room : from + length (textOf from start first set) + 8 ≤ length l₀ → at + length here + 8 ≤ length l
     room h =
-        let sum = sym (length-append (t .done) (textOf at start carried left)) ∙ ap length (t .whole) in
+        let sum = sym (length-append (t .done) (textOf at start prefix left)) ∙ ap length (t .whole) in
         let cut = ap length split ∙ length-append here (listed false (worded [] (intervalsIn (left - 2 ^ trailingZeros 32 left)))) in
         omega (arith, t .wrote .place, t .same)
 
@@ -69,7 +69,7 @@ module _ (l₀ : List ℕ) (from start set : ℕ) (first : Carried) (l : List �
     starts false w n = simp length-append (omega arith)
 
     pub turn : (r : ℕ) (l′ : List ℕ) → Writes l at here r l′ → length l′ ≡ length l
-        → Turn l₀ from start set first l′ r (left - (1 * 2 ^ trailingZeros 32 left) % 2 ^ 32) Carries.Nothing
+        → Turn l₀ from start set first l′ r (left - (1 * 2 ^ trailingZeros 32 left) % 2 ^ 32) Prefixes.None
     turn r l′ w kept =
         let past : 1 ≤ length here = starts (eqb at start) _ _ in
         let not-start : r ≡ start → ⊥ = λ e. omega (arith, w .place, t .behind) in

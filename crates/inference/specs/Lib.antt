@@ -1,3 +1,3 @@
 pub mod Names
-pub mod Carried
-pub mod Held
+pub mod Prefixes
+pub mod Described

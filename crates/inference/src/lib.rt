@@ -1,7 +1,4 @@
 // From the classes that sound to how a chord is written: the Rust's `inference` module.
-pub mod classes;
-mod kinds;
 pub mod normalize;
-mod reading;
 pub mod tables;
 mod wording;

@@ -1,12 +1,12 @@
 // The texts that a suffix is made of, as words (`answer::word`).
 use intervals::interval::Numbered;
-use qualities::quality::ChordQuality;
 ghost use mathlib.Core.Path.{_≡_};
 ghost use mathlib.Core.Bool.{cond};
 ghost use mathlib.Core.List.{[]};
 ghost use Rattle.answer.specs.Words.{bytes, packed};
-ghost use Rattle.rules.specs.Heading.{wording, modified, orElse};
-ghost use Rattle.inference.specs.Carried.{carriedText};
+ghost use Rattle.rules.specs.Heading.{orElse};
+ghost use Rattle.inference.specs.Prefixes.{prefixText, addWhere};
+ghost use Rattle.inference.specs.Described.{modifierWord};
 
 const NOTHING: u64 = 0;
 
@@ -24,22 +24,27 @@ const OMIT: u64 = 0x0400000074696d6f; // omit
 
 const NINE: u64 = 0x0100000000000039; // 9
 
-const SEVEN: u64 = 0x0100000000000037; // 7
-
-// What the first of some parts carries.
-pub enum Carried {
-    Nothing,
+// What stands before the first of some parts.
+pub enum Prefix {
+    None,
     Add,
     Omit,
 }
 
-pub(crate) fn carried_word(carried: Carried) -> u64
-    ensures { λ r. ⌜ r ≡ packed (carriedText carried) ⌝ }
+// `add` stands before the add that is numbered first.
+pub(crate) fn add_where(first: bool) -> Prefix
+    ensures { λ r. ⌜ r ≡ addWhere first ⌝ }
 {
-    match carried {
-        Carried::Nothing => NOTHING,
-        Carried::Add => ADD,
-        Carried::Omit => OMIT,
+    if first { Prefix::Add } else { Prefix::None }
+}
+
+pub(crate) fn prefix_word(prefix: Prefix) -> u64
+    ensures { λ r. ⌜ r ≡ packed (prefixText prefix) ⌝ }
+{
+    match prefix {
+        Prefix::None => NOTHING,
+        Prefix::Add => ADD,
+        Prefix::Omit => OMIT,
     }
 }
 
@@ -68,55 +73,20 @@ pub(crate) fn nine_word(nine: bool) -> u64
     if nine { NINE } else { NOTHING }
 }
 
-// A quality's word, up to where its modifier stands.
-pub(crate) fn quality_word(quality: ChordQuality) -> u64
-    ensures { λ r. ⌜ r ≡ packed (wording quality) ⌝ }
-{
-    match quality {
-        ChordQuality::Maj => NOTHING,
-        ChordQuality::Maj6 => 0x0100000000000036, // 6
-        ChordQuality::Maj7 => 0x020000000000614d, // Ma
-        ChordQuality::Dominant7 => NOTHING,
-        ChordQuality::Mi => 0x020000000000696d, // mi
-        ChordQuality::Mi6 => 0x030000000036696d, // mi6
-        ChordQuality::Mi7 => 0x020000000000696d, // mi
-        ChordQuality::MiMaj7 => 0x04000000614d696d, // miMa
-        ChordQuality::Augmented => 0x010000000000002b, // +
-        ChordQuality::Diminished => 0x03000000006d6964, // dim
-        ChordQuality::Diminished7 => 0x04000000376d6964, // dim7
-        ChordQuality::Power => NOTHING,
-        ChordQuality::Bass => NOTHING,
-    }
-}
-
-// Where a quality shows its modifier: that, or what it writes without one.
-pub(crate) fn modifier_word(quality: ChordQuality, modifier: Numbered) -> u64
-    ensures { λ r. ⌜ r ≡ packed (modified quality modifier) ⌝ }
-{
-    match quality {
-        ChordQuality::Maj => NOTHING,
-        ChordQuality::Maj6 => notation(modifier),
-        ChordQuality::Maj7 => or_seven(modifier),
-        ChordQuality::Dominant7 => or_seven(modifier),
-        ChordQuality::Mi => NOTHING,
-        ChordQuality::Mi6 => NOTHING,
-        ChordQuality::Mi7 => or_seven(modifier),
-        ChordQuality::MiMaj7 => or_seven(modifier),
-        ChordQuality::Augmented => notation(modifier),
-        ChordQuality::Diminished => NOTHING,
-        ChordQuality::Diminished7 => NOTHING,
-        ChordQuality::Power => NOTHING,
-        ChordQuality::Bass => NOTHING,
-    }
-}
-
-fn or_seven(modifier: Numbered) -> u64
-    ensures { λ r. ⌜ r ≡ packed (orElse "7" modifier) ⌝ }
+// A modifier where a quality shows one, or its word without one.
+pub(crate) fn modifier_word(shows: bool, without: u64, modifier: Numbered) -> u64
+    ensures { λ r. ⌜ r ≡ modifierWord shows without modifier ⌝ }
 {
     match modifier {
-        Numbered::Is(interval) => interval.to_chord_notation(),
-        Numbered::Nothing => SEVEN,
+        Numbered::Is(interval) => shown(shows, interval.to_chord_notation()),
+        Numbered::Nothing => without,
     }
+}
+
+fn shown(shows: bool, word: u64) -> u64
+    ensures { λ r. ⌜ r ≡ cond shows word 0 ⌝ }
+{
+    if shows { word } else { NOTHING }
 }
 
 // How a chord writes an interval, where there is one.

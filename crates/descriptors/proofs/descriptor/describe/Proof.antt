@@ -38,7 +38,7 @@ returns-2 c =
     let quality = masks .before .before in
     let e = quality .before .before in
     ap Is
-    (described (set e) (small e) (rooted-odd (set e) (is e)) _ _ _ _ _ _ _ _ _ _ (intervals-told (quality .before)) (quality .shown-quality .ensures)
+    (described (set e) (small e) (rooted-odd (set e) (is e)) _ _ _ _ _ _ _ _ _ _ _ (intervals-told (quality .before)) (quality .shown-quality .ensures)
     (masks .before .alteration-mask .ensures) (masks .extension-mask .ensures) (within .within .ensures) (split .split-extensions .ensures)
     (c .before .before .last-add .ensures) (c .before .omitted-third .ensures) (c .omitted-fifth .ensures))
     ∙ rooted (set e) (is e)

@@ -14,6 +14,10 @@ split-extensions-spec =
     (λ c κs. search needs)
     (λ c κs. search needs)
     (λ c κs. search needs)
-    (λ c. let m = c .before .before in
-    let k = m .before .before .before in
-    split (k .before .args .quality) _ (k .kind-of .ensures) (k .before .args .alterations) (k .before .args .extensions) _ _ _ _ _ (m .before .unstacked .ensures) (m .before .before .extension-stack .ensures) (c .before .self-mask .ensures) (m .modifier .ensures) (c .adds .ensures)))
+    (λ c κs. search needs)
+    (λ c. let m = c .before in
+    let added = m .before in
+    let missed = added .before .before in
+    let k = missed .before .before in
+    split (k .before .args .quality) _ (k .kind-of .ensures) (k .before .args .alterations) (k .before .args .extensions) _ _ _ _ _ _ (missed .unstacked .ensures)
+    (missed .before .extension-stack .ensures) (added .before .self-mask .ensures) (m .modifier .ensures) (added .adds .ensures) (c .nine-behind-six .ensures)))

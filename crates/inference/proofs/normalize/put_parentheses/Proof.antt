@@ -1,116 +1,123 @@
 -- `inference::normalize::put_parentheses` meets its contract: four lists of parts in a row, and what closes them.
-use mathlib.Core.Path.{_≡_, refl, sym, subst, _∙_}
+use mathlib.Core.Path.{_≡_, sym, ap, ap₂, subst, _∙_}
 use mathlib.Core.List.{List, [], _++_, append-nil, append-assoc}
 use Prim.Native.Nat.{ℕ, _+_, _≤_}
+use native.Mathlib.Nat.{le-refl}
+use lib.Bits.{bitXor, xor-lt}
 use lib.ListN.{length}
 use denote.Ref.{now}
-use native.Mathlib.Nat.{le-refl}
 use borrow.Author.Needs.{needs}
-use Rattle.intervals.specs.Intervals.{setOf}
 use Rattle.answer.specs.Words.{bytes}
-use Rattle.rules.specs.Classes.{intervalsIn}
-use Rattle.rules.specs.Parts.{omitThird, omitFifth}
-use Rattle.rules.specs.Suffix.{worded, parts, parenthesized}
 use Rattle.answer.specs.Written.{Writes}
-use Rattle.inference.specs.Carried.{carriedText}
-use Rattle.rules.proofs.Parted.{omits-small}
-use Rattle.inference.proofs.Readings.{alterations-few, parts-told}
+use Rattle.rules.specs.Classes.{intervalsIn}
+use Rattle.rules.specs.Suffix.{worded, parenthesized}
+use Rattle.descriptors.specs.declared.descriptor.Descriptor.{Descriptor}
+use Rattle.inference.specs.declared.wording.Prefix.{Prefix}
+use Rattle.inference.specs.Prefixes.{prefixText}
+use Rattle.inference.specs.Described.{partsOf}
 use Rattle.inference.proofs.Listed.{Listing, no-parts, then-parts, fits, starts-before, closed}
 use Rattle.inference.proofs.normalize.put_parentheses.Statement.{statement}
 use Rattle.inference.proofs.normalize.put_parentheses.Tie as tie
 
-abbrev entered : tie.After-alterations → tie.Start
-entered c = c .before .before .before .before
+abbrev entered : tie.After-add-where2 → tie.Start
+entered c = c .before .before .before
 
--- the four lists, in what is known at the calls; of the omits also before they are asked for
-abbrev altered : tie.After-alterations → List (List ℕ)
-altered c = worded [] (intervalsIn (c .alterations .result))
+abbrev described : tie.After-add-where2 → Descriptor
+described c = entered c .args .descriptor
 
-abbrev added : tie.After-alterations → List (List ℕ)
-added c = let d = c .before .before .written-adds .result in worded (carriedText (d .first)) (intervalsIn (d .shown))
+-- the four lists, in what is known at the calls
+abbrev altered : tie.After-add-where2 → List (List ℕ)
+altered c = worded [] (intervalsIn (described c .alterations))
 
-abbrev lastly : tie.After-alterations → List (List ℕ)
-lastly c = let d = c .before .before .written-adds .result in worded (carriedText (d .then)) (intervalsIn (d .last))
+abbrev added : tie.After-add-where2 → List (List ℕ)
+added c = worded (prefixText (c .before .add-where .result)) (intervalsIn (bitXor (described c .adds) (described c .nine)))
 
-abbrev omitted : ℕ → List (List ℕ)
-omitted omits = worded (bytes "omit") (intervalsIn omits)
+abbrev lastly : tie.After-add-where2 → List (List ℕ)
+lastly c = worded (prefixText (c .add-where2 .result)) (intervalsIn (described c .third))
 
-abbrev omits : tie.After-alterations → ℕ
-omits c = setOf (omitThird (entered c .args .reading .set) ++ omitFifth (entered c .args .reading .set))
+abbrev omitted : tie.After-add-where2 → List (List ℕ)
+omitted c = worded (bytes "omit") (intervalsIn (described c .omits))
 
-whole : (c : tie.After-alterations) (o : ℕ) → o ≡ omits c → altered c ++ added c ++ lastly c ++ omitted o ≡ parts (entered c .args .reading .set)
-whole c o e =
-    let told = c .before .before .written-adds in
-    parts-told (entered c .args .reading) (entered c .pre .0) (c .alterations .result) o (told .result) (c .alterations .ensures) (told .ensures .0) e
+whole : (c : tie.After-add-where2) → altered c ++ added c ++ lastly c ++ omitted c ≡ partsOf (described c)
+whole c =
+    ap (λ (x : List (List ℕ)). x ++ omitted c) (append-assoc (altered c) (added c) (lastly c))
+    ∙ ap₂
+    (λ (first then : Prefix). altered c
+    ++ (worded (prefixText first) (intervalsIn (bitXor (described c .adds) (described c .nine))) ++ worded (prefixText then) (intervalsIn (described c .third)))
+    ++ omitted c)
+    (c .before .add-where .ensures) (c .add-where2 .ensures)
 
 -- what is written behind each call
-abbrev After : tie.After-alterations → List (List ℕ) → ℕ → List ℕ → Type 0
+abbrev After : tie.After-add-where2 → List (List ℕ) → ℕ → List ℕ → Type 0
 After c P r l = Listing (now (entered c .args .buffer)) (entered c .args .start) P r l
 
-one : (c : tie.After-put-parts) → After (c .before) (altered (c .before)) (c .put-parts .result) (c .put-parts .last .0)
+one : (c : tie.After-put-parts) → let b = c .before .before in After b (altered b) (c .put-parts .result) (c .put-parts .last .0)
 one c =
-    let a = entered (c .before) .args in then-parts (no-parts (now (a .buffer)) (a .start)) (altered (c .before)) (c .put-parts .ensures) (c .put-parts .kept .0)
+    let b = c .before .before in
+    then-parts (no-parts (now (entered b .args .buffer)) (entered b .args .start)) (altered b) (c .put-parts .ensures) (c .put-parts .kept .0)
 
-two : (c : tie.After-put-parts2)
-    → let b = c .before .before .before .before .before in After b (altered b ++ added b) (c .put-parts2 .result) (c .put-parts2 .last .0)
-two c = let p = c .before .before .before .before in then-parts (one p) (added (p .before)) (c .put-parts2 .ensures) (c .put-parts2 .kept .0)
+abbrev before-two : tie.After-put-parts2 → tie.After-put-parts
+before-two c = c .before .before .before .before
+
+two : (c : tie.After-put-parts2) → let b = before-two c .before .before in After b (altered b ++ added b) (c .put-parts2 .result) (c .put-parts2 .last .0)
+two c = then-parts (one (before-two c)) (added (before-two c .before .before)) (c .put-parts2 .ensures) (c .put-parts2 .kept .0)
+
+abbrev before-three : tie.After-put-parts3 → tie.After-put-parts2
+before-three c = c .before .before .before .before
 
 three : (c : tie.After-put-parts3)
-    → let b = c .before .before .before .before .before .before .before .before .before in
-    After b (altered b ++ added b ++ lastly b) (c .put-parts3 .result) (c .put-parts3 .last .0)
+    → let b = before-two (before-three c) .before .before in After b (altered b ++ added b ++ lastly b) (c .put-parts3 .result) (c .put-parts3 .last .0)
 three c =
-    let p = c .before .before .before .before in
-    then-parts (two p) (lastly (p .before .before .before .before .before)) (c .put-parts3 .ensures) (c .put-parts3 .kept .0)
+    then-parts (two (before-three c)) (lastly (before-two (before-three c) .before .before)) (c .put-parts3 .ensures) (c .put-parts3 .kept .0)
 
 first-room : tie.Need-put-parts-requires
-first-room c κs = (
-  alterations-few _ (entered c .pre .0) _ (c .alterations .ensures),
-  le-refl _,
-  fits (no-parts (now (entered c .args .buffer)) (entered c .args .start)) (altered c) (added c ++ lastly c ++ omitted (omits c)) _
-      (simp append-assoc (simp append-assoc at (whole c (omits c) refl))) (entered c .pre .2),
-)
+first-room c κs =
+    let b = c .before in (
+      entered b .pre .0 .alterations,
+      le-refl _,
+      fits (no-parts (now (entered b .args .buffer)) (entered b .args .start)) (altered b) (added b ++ lastly b ++ omitted b) _
+          (simp append-assoc (simp append-assoc at (whole b))) (entered b .pre .1),
+    )
 
 second-room : tie.Need-put-parts-requires-2
 second-room c κs =
     let p = c .before .before .before in
-    let b = p .before in (
-      b .before .before .written-adds .ensures .1,
+    let b = p .before .before in (
+      xor-lt 23 _ _ (entered b .pre .0 .adds) (entered b .pre .0 .nine),
       starts-before (one p),
-      fits (one p) (added b) (lastly b ++ omitted (omits b)) _ (simp append-assoc (simp append-assoc at (whole b (omits b) refl))) (entered b .pre .2),
+      fits (one p) (added b) (lastly b ++ omitted b) _ (simp append-assoc (simp append-assoc at (whole b))) (entered b .pre .1),
     )
 
 third-room : tie.Need-put-parts-requires-3
 third-room c κs =
     let p = c .before .before .before in
-    let b = p .before .before .before .before .before in (
-      b .before .before .written-adds .ensures .2,
+    let b = before-two p .before .before in (
+      entered b .pre .0 .third,
       starts-before (two p),
-      fits (two p) (lastly b) (omitted (omits b)) _ (whole b (omits b) refl) (entered b .pre .2),
+      fits (two p) (lastly b) (omitted b) _ (whole b) (entered b .pre .1),
     )
 
 fourth-room : tie.Need-put-parts-requires-4
 fourth-room c κs =
-    let p = c .before .before .before .before in
-    let b = p .before .before .before .before .before .before .before .before .before in
-    let told = whole b _ (c .omits .ensures) in (
-      rw (c .omits .ensures) (omits-small _),
+    let p = c .before .before .before in
+    let b = before-two (before-three p) .before .before in (
+      entered b .pre .0 .omits,
       starts-before (three p),
-      fits (three p) (omitted (c .omits .result)) [] _ (append-nil _ ∙ told) (entered b .pre .2),
+      fits (three p) (omitted b) [] _ (append-nil _ ∙ whole b) (entered b .pre .1),
     )
 
 returns : tie.Need-returns
 returns c =
     let put = c .before .before in
     let p = put .before .before .before .before .before in
-    let o = p .before in
-    let q = p .before .before .before .before .before in
-    let b = q .before .before .before .before .before .before .before .before .before in
+    let q = p .before .before .before .before in
+    let b = before-two (before-three q) .before .before in
     let a = entered b .args in
-    let told = whole b _ (o .omits .ensures) in
-    let four = then-parts (three q) (omitted (o .omits .result)) (p .put-parts4 .ensures) (p .put-parts4 .kept .0) in
+    let told = whole b in
+    let four = then-parts (three q) (omitted b) (p .put-parts4 .ensures) (p .put-parts4 .kept .0) in
     subst (λ (x : List (List ℕ)). Writes (now (a .buffer)) (a .start) (parenthesized x) (put .put .result) (put .put .last .0)) told
     (closed four _ _ _ (put .before .closing .ensures)
-    (subst (λ (x : List (List ℕ)). a .start + length (parenthesized x) + 8 ≤ length (now (a .buffer))) (sym told) (entered b .pre .2)) (put .put .ensures))
+    (subst (λ (x : List (List ℕ)). a .start + length (parenthesized x) + 8 ≤ length (now (a .buffer))) (sym told) (entered b .pre .1)) (put .put .ensures))
 
 pub put-parentheses-spec : {M : Type 1} → statement M
 put-parentheses-spec =
@@ -121,7 +128,6 @@ put-parentheses-spec =
     first-room
     second-room
     third-room
-    (λ c κs. search needs)
     fourth-room
     (λ c κs. search needs)
     (λ c κs. search needs)

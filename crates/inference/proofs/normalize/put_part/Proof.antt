@@ -10,9 +10,9 @@ use Rattle.answer.specs.Words.{bytes, packed}
 use Rattle.intervals.specs.Intervals.{numbered}
 use Rattle.intervals.specs.declared.interval.Numbered.{Numbered}
 use Rattle.rules.specs.Heading.{orElse}
-use Rattle.inference.specs.Carried.{carriedText}
+use Rattle.inference.specs.Prefixes.{prefixText}
 use Rattle.answer.proofs.Writing.{no-puts, then-put}
-use Rattle.inference.proofs.Texts.{opening-short, carried-short, or-nothing-short}
+use Rattle.inference.proofs.Texts.{opening-short, prefix-short, or-nothing-short}
 use Rattle.inference.proofs.normalize.put_part.Statement.{statement}
 use Rattle.inference.proofs.normalize.put_part.Tie as tie
 
@@ -28,7 +28,7 @@ returns c =
     then-put (no-puts (now (a .buffer)) (a .at)) (cond (eqb (a .at) (a .start)) (bytes "(") (bytes ",")) (opening-short (eqb (a .at) (a .start)))
     _ _ _ (first .before .opening .ensures) (omega arith) (first .put .ensures) (first .put .kept .0) in
     let worded =
-    then-put opened (carriedText (a .carried)) (carried-short (a .carried)) _ _ _ (second .before .carried-word .ensures) (omega arith)
+    then-put opened (prefixText (a .prefix)) (prefix-short (a .prefix)) _ _ _ (second .before .prefix-word .ensures) (omega arith)
     (second .put2 .ensures) (second .put2 .kept .0) in
     let named =
     then-put worded (orElse "" (numbered (a .number))) (or-nothing-short (numbered (a .number))) _ _ _

@@ -6,10 +6,10 @@ use Rattle.inference.proofs.normalize.put_parts.Statement.{statement}
 use Rattle.inference.proofs.normalize.put_parts.Tie as tie
 
 abbrev Inv-loop : tie.InvT-loop
-Inv-loop buffer₀ from start set at₀ left₀ carried₀ buffer at left carried = Turn buffer₀ from start set carried₀ buffer at left carried
+Inv-loop buffer₀ from start set at₀ left₀ prefix₀ buffer at left prefix = Turn buffer₀ from start set prefix₀ buffer at left prefix
 
 abbrev μ-loop : tie.MeasureT-loop
-μ-loop buffer₀ from start set at₀ left₀ carried₀ buffer at left carried = left
+μ-loop buffer₀ from start set at₀ left₀ prefix₀ buffer at left prefix = left
 
 pub put-parts-spec : {M : Type 1} → statement M
 put-parts-spec =

@@ -10,7 +10,6 @@ use Rattle.answer.proofs.Rooms.{refused-by}
 use Rattle.answer.proofs.Tests.{refused, admitted}
 use Rattle.answer.proofs.Writing.{counted, within}
 use Rattle.intervals.specs.Sets.{isRooted}
-use Rattle.intervals.proofs.Rooted.{rooted-small, rooted-odd}
 use Rattle.inference.proofs.Replied.{not-rooted, rooted}
 use Rattle.inference.proofs.normalize.suffix.Statement.{statement}
 use Rattle.inference.proofs.normalize.suffix.Tie as tie
@@ -38,7 +37,7 @@ suffix-spec =
     (λ c κs. search needs)
     (λ c. refused-by _ _ _ (not-rooted _ (refused _ _ (c .before .is-rooted .ensures) (c .if1 .taken))))
     (λ c. search needs)
-    (λ c κs. let e = c .before in let small = rooted-small (set e) (is e) in (omega arith, rooted-odd (set e) (is e), omega arith))
+    (λ c κs. (is (c .before), omega arith))
     (λ c. within (c .before .put-suffix .ensures))
     (λ c. counted (c .before .before .put-suffix .ensures))
     (λ c κs. search needs)

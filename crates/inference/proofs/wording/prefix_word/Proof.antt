@@ -1,12 +1,12 @@
--- `inference::wording::carried_word` meets its contract: each word is its text's.
+-- `inference::wording::prefix_word` meets its contract: each word is its text's.
 use borrow.Author.Needs.{needs}
 use Rattle.answer.specs.Words.{bytes, low, packed}
-use Rattle.inference.proofs.wording.carried_word.Statement.{statement}
-use Rattle.inference.proofs.wording.carried_word.Tie as tie
+use Rattle.inference.proofs.wording.prefix_word.Statement.{statement}
+use Rattle.inference.proofs.wording.prefix_word.Tie as tie
 
-pub carried-word-spec : {M : Type 1} → statement M
+pub prefix-word-spec : {M : Type 1} → statement M
 unfolding bytes low packed
-carried-word-spec =
+prefix-word-spec =
     tie.close
     (tie.spec
     (λ c. search needs)
