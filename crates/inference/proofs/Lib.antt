@@ -1,6 +1,7 @@
 pub mod Named
 pub mod First
 pub mod Texts
+pub mod Puts
 pub mod Described
 pub mod Turn
 pub mod Listed

@@ -1,3 +1,4 @@
 pub mod Names
 pub mod Prefixes
+pub mod Puts
 pub mod Described

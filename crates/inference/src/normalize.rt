@@ -20,19 +20,17 @@ use descriptors::kinds::kind_of;
 use intervals::interval::Interval;
 use intervals::interval::MAJOR_SEVENTH;
 use intervals::set::is_rooted;
-ghost use mathlib.Core.Path.{_≡_};
-ghost use mathlib.Core.Bool.{true};
 ghost use mathlib.Core.List.{_++_};
 ghost use Prim.Native.Nat.{_+_, _≤_, _<_, _^_};
 ghost use lib.Dec.{eqb};
 ghost use lib.ListN.{length};
 ghost use Rattle.answer.specs.Replies.{Answered};
 ghost use Rattle.answer.specs.Written.{Writes};
-ghost use Rattle.intervals.specs.Sets.{isRooted};
 ghost use Rattle.intervals.specs.Intervals.{numbered};
 ghost use Rattle.rules.specs.Classes.{intervalsIn};
-ghost use Rattle.rules.specs.Suffix.{worded, listed, parenthesized, suffixOf, longest, suffixReply};
+ghost use Rattle.rules.specs.Suffix.{worded, listed, parenthesized, suffixReply};
 ghost use Rattle.inference.specs.Prefixes.{prefixText, part};
+ghost use Rattle.inference.specs.Puts.{PutsSuffix};
 ghost use Rattle.inference.specs.Described.{headOf, partsOf, Small};
 
 // The longest that a suffix can be.
@@ -53,11 +51,18 @@ pub fn suffix(set: u32, out: &mut [u8]) -> Output
     give(&buffer[..end], out)
 }
 
-// Writes the suffix of a rooted set at a place of a buffer, and answers the place behind it.
-pub(crate) fn put_suffix(buffer: &mut [u8], at: usize, set: u32) -> usize
-    requires { ⌜ (isRooted set ≡ true) × (at + longest + 8 ≤ length (now buffer)) ⌝ }
-    ensures { λ r. ⌜ Writes (now (buffer .entry)) at (suffixOf set) r (now (buffer .exit)) ⌝ }
+// Writes the suffix of a rooted set at a place of a buffer, and answers the place behind it: what comes next goes there. Where the number is
+// no rooted set, or the longest suffix and a word's eight bytes have no room, nothing is written and the place stays. What stands behind the
+// place is the writer's own.
+pub fn put_suffix(buffer: &mut [u8], at: usize, set: u32) -> usize
+    ensures { λ r. ⌜ PutsSuffix set (now (buffer .entry)) at r (now (buffer .exit)) ⌝ }
 {
+    if buffer.len() < ROOM {
+        return at;
+    }
+    if buffer.len() - ROOM < at {
+        return at;
+    }
     match describe(set) {
         DescriptorAnswer::Is(descriptor) => put_described(buffer, at, descriptor),
         DescriptorAnswer::Refused(_) => at,

@@ -3,7 +3,7 @@ use answer::output::Output;
 use answer::output::give;
 use answer::refusal::Refusal;
 use answer::word::put;
-use inference::classes::intervals;
+use descriptors::classes::intervals;
 use intervals::interval::Interval;
 use intervals::interval::Numbered;
 use intervals::set::LAST_CLASS;
