@@ -36,8 +36,8 @@ ghost use Rattle.inference.specs.Described.{headOf, partsOf, Small};
 // The longest that a suffix can be.
 const LONGEST: usize = 64;
 
-// A word is stored whole, so that the last has eight bytes.
-const ROOM: usize = LONGEST + 8;
+// The room that a suffix asks for where it is put: a word is stored whole, so that the last has eight bytes.
+pub const ROOM: usize = LONGEST + 8;
 
 // The suffix of a rooted set, written to the front of `out`.
 pub fn suffix(set: u32, out: &mut [u8]) -> Output

@@ -1,7 +1,8 @@
 // The search: the suffix of each rooted set is made once, and compared with the text.
 use answer::output::Output;
 use answer::output::give;
-use inference::normalize::suffix;
+use inference::normalize::ROOM as SUFFIX_ROOM;
+use inference::normalize::put_suffix;
 ghost use mathlib.Core.Path.{_≡_};
 ghost use mathlib.Core.List.{[], _∷_};
 ghost use Prim.Native.Nat.{_+_, _/_, _%_, _<_, _≤_};
@@ -54,11 +55,9 @@ fn is_suffix(name: &[u8], set: u32) -> bool
     requires { ⌜ (set < 4096) × (set % 2 ≡ 1) ⌝ }
     ensures { λ r. ⌜ r ≡ same (now (name .entry)) (suffixOf set) ⌝ }
 {
-    let mut buffer = [0u8; LONGEST];
-    match suffix(set, &mut buffer) {
-        Output::Written(count) => is_same(name, &buffer[..count]),
-        Output::Refused(_) => false,
-    }
+    let mut buffer = [0u8; SUFFIX_ROOM];
+    let end = put_suffix(&mut buffer, 0, set);
+    is_same(name, &buffer[..end])
 }
 
 fn is_same(text: &[u8], other: &[u8]) -> bool
