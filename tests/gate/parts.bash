@@ -30,8 +30,8 @@ run_part() { # NAME COMMAND...
   return "$status"
 }
 
-# The clock's seconds are those that passed; of those of work, several passed at a time.
 show_table() {
-  printf '%s\n' $'part\tnumber\twork, s\tclock, s' "${rows[@]}" |
-    awk -F '\t' '{ row = sprintf("%-26s %7s %9s %9s", $1, $2, $3, $4); sub(/ +$/, "", row); print row }'
+  tell "seconds by part: those of each, added, though several passed at a time; and those of the clock"
+  printf '%s\n' $'part\tnumber\tof each\tof the clock' "${rows[@]}" |
+    awk -F '\t' '{ row = sprintf("%-26s %7s %8s %13s", $1, $2, $3, $4); sub(/ +$/, "", row); print row }'
 }
