@@ -16,7 +16,7 @@ all: $(archive)
 
 # The folders too, since a file that went is a change as well.
 $(archive): crates.txt $(shell find crates)
-	rt staticlib hemotusap
+	@tools/rt-in-short staticlib hemotusap
 
 # A whole path, since hemotusap.pc tells it to compilers that stand elsewhere.
 install: $(archive)
