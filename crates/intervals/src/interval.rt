@@ -42,12 +42,8 @@ pub enum IntDegree {
     Thirteenth,
 }
 
-// In a set of intervals, a number, each has the bit of its number.
+// In a set of intervals, a number, each has the bit of its number: those that some rule names.
 pub const UNISON: u32 = 1 << 0;
-
-pub const MINOR_SECOND: u32 = 1 << 1;
-
-pub const MAJOR_SECOND: u32 = 1 << 2;
 
 pub const MINOR_THIRD: u32 = 1 << 3;
 
@@ -72,8 +68,6 @@ pub const DIMINISHED_SEVENTH: u32 = 1 << 12;
 pub const MINOR_SEVENTH: u32 = 1 << 13;
 
 pub const MAJOR_SEVENTH: u32 = 1 << 14;
-
-pub const OCTAVE: u32 = 1 << 15;
 
 pub const FLAT_NINTH: u32 = 1 << 16;
 

@@ -1,4 +1,5 @@
 -- What a caller has of a lead and the pool that it leaves.
+--     fewer       the pool has no more tones once the lead has left
 --     led-is      what is left makes a pool
 --     led-left    its tones, of a pool that fits
 use mathlib.Core.Path.{_≡_, _∙_}
@@ -15,7 +16,7 @@ use Rattle.pool.proofs.Pooled.{pool-is, pool-tones}
 use Rattle.leads.specs.Lead.{owns, isOwned, withoutLast, leadOf, ledOf}
 
 module _ (lowest highest : ℕ) where
-  fewer : (key : ℕ) (l : List Tone) → length (withoutLast lowest highest key l) ≤ length l
+  pub fewer : (key : ℕ) (l : List Tone) → length (withoutLast lowest highest key l) ≤ length l
   unfolding withoutLast
   fewer key [] = omega arith
   fewer key (t ∷ l) = by-owner (isOwned lowest highest key l) (owns lowest highest key t) (fewer key l)

@@ -2,4 +2,5 @@ pub mod Search
 pub mod Placing
 pub mod Few
 pub mod Replied
+pub mod Laws
 pub mod Determined
