@@ -1,8 +1,10 @@
 // The codes that a line of text holds: decimal, one to three digits each, one space between.
 ghost use mathlib.Core.Path.{_≡_};
-ghost use Prim.Native.Nat.{_<_, _≤_};
+ghost use mathlib.Core.Bool.{_&&_};
+ghost use Prim.Native.Nat.{_≤_};
+ghost use lib.Dec.{leb, ltb};
 ghost use lib.ListN.{length};
-ghost use Rattle.line.specs.Codes.{Reads, isEnded};
+ghost use Rattle.chordlist.specs.Codes.{Reads};
 
 // The largest code, and the most digits that one has.
 const LAST_CODE: u32 = 255;
@@ -21,8 +23,9 @@ pub enum Codes {
     Bad,
 }
 
+// A code can end here.
 fn is_ended(value: u32, digits: u32) -> bool
-    ensures { λ r. ⌜ r ≡ isEnded value digits ⌝ }
+    ensures { λ r. ⌜ r ≡ ltb 0 digits && leb value 255 ⌝ }
 {
     (0 < digits) & (value <= LAST_CODE)
 }

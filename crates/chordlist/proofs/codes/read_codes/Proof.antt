@@ -1,4 +1,4 @@
--- `line::codes::read_codes` meets its contract. The loop's invariant: what has been read before the byte at `i`.
+-- `chordlist::codes::read_codes` meets its contract. The loop's invariant: what has been read before the byte at `i`.
 use mathlib.Core.Path.{_≡_, refl, ap, sym, subst, _∙_}
 use mathlib.Core.Bool.{Bool, true, false, _&&_, and-false}
 use mathlib.Core.Logic.{⊎-elim}
@@ -10,10 +10,10 @@ use lib.ListN.{length, getD, length-set}
 use denote.Ref.{now}
 use borrow.Author.Needs.{needs}
 use borrow.Author.Tests.{ne-eqb, not-true, not-false}
-use Rattle.line.specs.Codes.{bad, holds, isDigit, isEnded, codesIn}
-use Rattle.line.proofs.Reading.{Reading, start, value-less, is-digit, has-place, digit, next, no-space, no-code, place, read, cut}
-use Rattle.line.proofs.codes.read_codes.Statement.{statement}
-use Rattle.line.proofs.codes.read_codes.Tie as tie
+use Rattle.chordlist.specs.Codes.{holds, codesIn}
+use Rattle.chordlist.proofs.Reading.{isEnded, Reading, start, value-less, is-digit, has-place, digit, next, no-space, no-code, place, read, cut}
+use Rattle.chordlist.proofs.codes.read_codes.Statement.{statement}
+use Rattle.chordlist.proofs.codes.read_codes.Tie as tie
 
 abbrev Inv-loop : tie.InvT-loop
 Inv-loop line codes₀ value₀ digits₀ count₀ i₀ codes value digits count i =
@@ -53,7 +53,7 @@ returns-3 : tie.Need-returns-3 Inv-loop μ-loop
 returns-3 c =
     let e = c .before .before .before in
     let h = e .before .before .before .loop in
-    no-code (now (e .before .before .before .before .before .before .before .args .line)) (h .codes) (h .i) (h .value) (h .digits) (h .count) (omega arith) (h .inv .1) (e .if2 .left)
+    no-code (now (e .before .before .before .before .before .before .before .args .line)) (h .codes) (h .i) (h .value) (h .digits) (h .count) (omega arith) (h .inv .1) (c .before .before .if3 .left)
     (sym (c .before .is-ended .ensures) ∙ not-true _ (c .if4 .taken))
 
 -- behind the last byte
@@ -86,7 +86,7 @@ loop-again c =
     ))
     (λ w. (
       omega arith,
-      rw (w .4, w .5, w .6, w .7) (next line (h .codes) (h .i) (h .value) (h .digits) (h .count) (omega arith) (h .inv .1) (w .0 .left) (w .1 .left)
+      rw (w .4, w .5, w .6, w .7) (next line (h .codes) (h .i) (h .value) (h .digits) (h .count) (omega arith) (h .inv .1) (w .1 .left)
           (sym (w .2 .ensures) ∙ not-false _ (w .3 .left)) (omega (arith, h .inv .1 .used))),
       ap length (w .4) ∙ simp length-set (h .inv .2),
     ))
