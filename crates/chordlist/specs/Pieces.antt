@@ -12,20 +12,23 @@ use Rattle.chordlist.specs.Input.{lineFeed}
 abbrev pub mostKept : ℕ
 mostKept = 1025
 
--- what is kept with a byte more
-abbrev pub keeping : List ℕ → ℕ → List ℕ
-keeping held byte = take mostKept (held ++ (byte ∷ []))
+-- what is kept of a line with a byte more: behind LF a new one begins
+unfoldable pub heldWith : List ℕ → ℕ → List ℕ
+heldWith held byte = cond (eqb byte lineFeed) [] (take mostKept (held ++ (byte ∷ [])))
 
--- what is kept of a line after a piece
+-- what a byte has printed: LF, the answer of the line that it ends
+unfoldable pub saidWith : List (List ℕ) → List ℕ → ℕ → List ℕ
+saidWith names held byte = cond (eqb byte lineFeed) (lineText names held) []
+
+-- what is kept after a piece
 unfoldable pub heldAfter : List ℕ → List ℕ → List ℕ
 heldAfter held [] = held
-heldAfter held (byte ∷ more) = cond (eqb byte lineFeed) (heldAfter [] more) (heldAfter (keeping held byte) more)
+heldAfter held (byte ∷ more) = heldAfter (heldWith held byte) more
 
--- what a piece has printed: the answers of the lines that end in it
+-- what a piece has printed
 unfoldable pub saidBy : List (List ℕ) → List ℕ → List ℕ → List ℕ
 saidBy names held [] = []
-saidBy names held (byte ∷ more) =
-    cond (eqb byte lineFeed) (lineText names held ++ saidBy names [] more) (saidBy names (keeping held byte) more)
+saidBy names held (byte ∷ more) = saidWith names held byte ++ saidBy names (heldWith held byte) more
 
 -- what the end has printed: "A final line without LF counts if not empty"
 unfoldable pub saidAtEnd : List (List ℕ) → List ℕ → List ℕ

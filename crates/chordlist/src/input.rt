@@ -1,12 +1,11 @@
 // The lines of an input that comes byte by byte: what is kept of a line, and when it is answered.
 use crate::reply::reply;
 ghost use mathlib.Core.Path.{_≡_};
-ghost use mathlib.Core.List.{[], _∷_};
 ghost use Prim.Native.Nat.{_≤_};
 ghost use lib.ListN.{length, take};
 ghost use Rattle.inference.specs.Names.{flats};
 ghost use Rattle.chordlist.specs.Replies.{Printed, mostPrinted};
-ghost use Rattle.chordlist.specs.Pieces.{mostKept, heldAfter, saidBy, saidAtEnd};
+ghost use Rattle.chordlist.specs.Pieces.{mostKept, heldWith, saidWith, saidAtEnd};
 
 // One byte more than a line may have, so that a longer one shows.
 pub const KEPT: usize = 1025;
@@ -22,7 +21,7 @@ pub struct Taken {
 // Takes in a byte behind the first `kept` of a line: LF has the line answered, and any other byte is kept where it has room.
 pub(crate) fn take_in(byte: u8, line: &mut [u8], kept: usize, out: &mut [u8]) -> Taken
     requires { ⌜ (kept ≤ mostKept) × (length (now line) ≡ mostKept) × (mostPrinted ≤ length (now out)) ⌝ }
-    ensures { λ r. ⌜ Printed (heldAfter (take kept (now (line .entry))) (byte ∷ [])) (now (line .entry)) (r .kept) (now (line .exit)) × Printed (saidBy flats (take kept (now (line .entry))) (byte ∷ [])) (now (out .entry)) (r .written) (now (out .exit)) ⌝ }
+    ensures { λ r. ⌜ Printed (heldWith (take kept (now (line .entry))) byte) (now (line .entry)) (r .kept) (now (line .exit)) × Printed (saidWith flats (take kept (now (line .entry))) byte) (now (out .entry)) (r .written) (now (out .exit)) ⌝ }
 {
     if byte == LINE_FEED {
         let written = reply(&line[..kept], out);

@@ -7,7 +7,8 @@ use lib.Seq.{length-take-le, take-length}
 use denote.Ref.{now}
 use borrow.Author.Needs.{needs}
 use Rattle.answer.specs.Written.{Writes}
-use Rattle.chordlist.specs.Pieces.{heldAfter}
+use Rattle.chordlist.specs.Replies.{mostPrinted}
+use Rattle.chordlist.specs.Pieces.{mostKept, heldAfter}
 use Rattle.chordlist.proofs.Printing.{fronted}
 use Rattle.chordlist.proofs.Bytewise.{none-taken, one-taken}
 use Rattle.chordlist.proofs.feed.Statement.{statement}
@@ -15,7 +16,7 @@ use Rattle.chordlist.proofs.feed.Tie as tie
 
 abbrev Inv-loop : tie.InvT-loop
 Inv-loop piece line₀ length out₀ kept₀ i₀ line out kept i =
-    (i ≤ size piece) × (kept ≤ 1025) × (size line ≡ size line₀) × (size out ≡ 842) × Writes line₀ 0 (heldAfter (take length line₀) (take i piece)) kept line
+    (i ≤ size piece) × (kept ≤ mostKept) × (size line ≡ size line₀) × (size out ≡ mostPrinted) × Writes line₀ 0 (heldAfter (take length line₀) (take i piece)) kept line
 
 abbrev μ-loop : tie.MeasureT-loop
 μ-loop piece line₀ length out₀ kept₀ i₀ line out kept i = size piece - i

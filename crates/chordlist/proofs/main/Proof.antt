@@ -5,13 +5,14 @@ use native.Mathlib.Omega.{arith}
 use lib.ListN.{length as size, take, length-take}
 use lib.Seq.{length-take-le}
 use borrow.Author.Needs.{needs}
+use Rattle.chordlist.specs.Pieces.{mostKept}
 use Rattle.chordlist.proofs.Printing.{fronted}
 use Rattle.chordlist.proofs.Streams.{held-short}
 use Rattle.chordlist.proofs.main.Statement.{statement}
 use Rattle.chordlist.proofs.main.Tie as tie
 
 abbrev Inv-loop : tie.InvT-loop
-Inv-loop line₀ length₀ input₀ turns₀ line length input turns = (size line ≡ 1025) × (size input ≡ 4096) × (length ≤ 1025)
+Inv-loop line₀ length₀ input₀ turns₀ line length input turns = (size line ≡ mostKept) × (size input ≡ 4096) × (length ≤ mostKept)
 
 abbrev μ-loop : tie.MeasureT-loop
 μ-loop line₀ length₀ input₀ turns₀ line length input turns = turns

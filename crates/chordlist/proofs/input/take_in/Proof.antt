@@ -6,6 +6,8 @@ use lib.Seq.{length-take-le}
 use denote.Ref.{now}
 use borrow.Author.Needs.{needs}
 use Rattle.inference.specs.Names.{flats}
+use Rattle.chordlist.specs.Replies.{Printed}
+use Rattle.chordlist.specs.Pieces.{saidWith}
 use Rattle.chordlist.proofs.Bytewise.{answered, silent, emptied, kept, full}
 use Rattle.chordlist.proofs.input.take_in.Statement.{statement}
 use Rattle.chordlist.proofs.input.take_in.Tie as tie
@@ -15,21 +17,13 @@ returns c =
     let t = c .before .before .before .before .before in
     let s = t .before .before .before in
     let a = s .args in
-    (emptied (a .byte) (now (a .line)) (a .kept) (s .pre .1) (t .if1 .taken), rw (answered (a .byte) (take (a .kept) (now (a .line))) flats (t .if1 .taken)) (c .before .before .reply .ensures))
+    let line = now (a .line) in
+    (emptied line (a .kept) (a .byte) (s .pre .1) (t .if1 .taken), rw (answered flats (take (a .kept) line) (a .byte) (t .if1 .taken)) (c .before .before .reply .ensures))
 
-returns-2 : tie.Need-returns-2
-returns-2 c =
-    let s = c .before .before .before .before in
-    let a = s .args in
-    let other = c .before .if1 .left in
-    (full (a .byte) (now (a .line)) (a .kept) (s .pre .1) other (c .if2 .taken), silent (a .byte) (take (a .kept) (now (a .line))) flats other (now (a .out)))
-
-returns-3 : tie.Need-returns-3
-returns-3 c =
-    let s = c .before .before .before .before in
-    let a = s .args in
-    let other = c .before .if1 .left in
-    (kept (a .byte) (now (a .line)) (a .kept) (s .pre .1) other (omega (arith, s .pre .0)), silent (a .byte) (take (a .kept) (now (a .line))) flats other (now (a .out)))
+-- a byte that does not end the line
+module _ (c : tie.Else1) where
+  nothing-said : Printed (saidWith flats (take (c .before .before .before .args .kept) (now (c .before .before .before .args .line))) (c .before .before .before .args .byte)) (now (c .before .before .before .args .out)) 0 (now (c .before .before .before .args .out))
+  nothing-said = silent flats _ _ (c .if1 .left) _
 
 pub take-in-spec : {M : Type 1} → statement M
 take-in-spec =
@@ -41,8 +35,8 @@ take-in-spec =
     (λ c. search needs)
     (λ c. search needs)
     returns
-    returns-2
+    (λ c. let s = c .before .before .before .before in (full (now (s .args .line)) (s .args .kept) (s .args .byte) (s .pre .1) (c .before .if1 .left) (c .if2 .taken), nothing-said (c .before)))
     (λ c. search needs)
     (λ c. search needs)
     (λ c. search needs)
-    returns-3)
+    (λ c. let s = c .before .before .before .before in (kept (now (s .args .line)) (s .args .kept) (s .args .byte) (s .pre .1) (c .before .if1 .left) (omega (arith, s .pre .0)), nothing-said (c .before))))
