@@ -1,5 +1,6 @@
--- An input in pieces prints what it prints whole.
+-- An input prints in pieces what it prints whole.
 --     kept-answers    what is kept of a line is answered as the line is
+--     line-ends, line-goes-on     a byte that is LF, and one that is not
 --     held-append     what is kept after two pieces
 --     held-short      no more is kept than there is room for
 --     in-pieces       pieces of an input, one after the other, and then its end print `inputText` of the whole
@@ -40,7 +41,6 @@ kept-answers names line =
     (λ long. rw (lt-leb (length (cut line)) 1024 (omega (arith, cut-long line long)), lt-leb (length line) 1024 (omega arith)))
     (is-cut line)
 
--- a byte that ends a line, and one that does not
 module _ (names : List (List ℕ)) (held : List ℕ) (byte : ℕ) where
   pub line-ends : eqb byte lineFeed ≡ true → (heldWith held byte ≡ []) × (saidWith names held byte ≡ lineText names held)
   unfolding heldWith saidWith

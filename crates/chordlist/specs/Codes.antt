@@ -24,6 +24,7 @@ digit9 = 57
 abbrev pub space : ℕ
 space = 32
 
+-- "digits"
 abbrev pub isDigit : ℕ → Bool
 isDigit byte = leb digit0 byte && leb byte digit9
 
@@ -31,7 +32,7 @@ unfoldable pub areDigits : List ℕ → Bool
 areDigits [] = true
 areDigits (byte ∷ more) = isDigit byte && areDigits more
 
--- "decimal": the number of some digits behind a number
+-- "decimal": the number that some digits behind a number make
 unfoldable pub decimal : ℕ → List ℕ → ℕ
 decimal number [] = number
 decimal number (digit ∷ more) = decimal (number * 10 + (digit - digit0)) more
@@ -50,7 +51,7 @@ unfoldable pub codesOf : List (List ℕ) → Line
 codesOf [] = holds []
 codesOf (part ∷ more) = cond (isCode part) (withCode (decimal 0 part) (codesOf more)) bad
 
--- "one space between": before a space and behind it stands a code; an empty line has none
+-- "one space between": before each space and behind it stands a code. An empty line has none
 unfoldable pub codesIn : List ℕ → Line
 codesIn [] = holds []
 codesIn (byte ∷ more) = codesOf (parts ([] ∷ []) space (byte ∷ more))

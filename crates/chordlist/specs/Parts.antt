@@ -9,7 +9,7 @@ unfoldable pub withByte : ℕ → List (List ℕ) → List (List ℕ)
 withByte byte [] = (byte ∷ []) ∷ []
 withByte byte (part ∷ more) = (byte ∷ part) ∷ more
 
--- the parts of a text before each separator and behind the last, where `none` are those of no bytes
+-- the parts of a text before each separator and behind the last; `none` are those of no bytes
 unfoldable pub parts : List (List ℕ) → ℕ → List ℕ → List (List ℕ)
 parts none separator [] = none
 parts none separator (byte ∷ more) =

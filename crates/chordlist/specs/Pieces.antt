@@ -1,5 +1,5 @@
--- An input that comes in pieces: what is kept of a line between them, and what each has printed. The theorem `in-pieces`
--- (proofs/Streams.antt) says that all of them together print `inputText` of the whole.
+-- An input that comes in pieces: what is kept of a line, and what is printed. The theorem `in-pieces` (proofs/Streams.antt)
+-- says that all of them together print what `inputText` says of the whole.
 use mathlib.Core.Bool.{cond}
 use mathlib.Core.List.{List, [], _∷_, _++_}
 use Prim.Native.Nat.{ℕ}
@@ -8,7 +8,7 @@ use lib.ListN.{take}
 use Rattle.chordlist.specs.Replies.{lineText}
 use Rattle.chordlist.specs.Input.{lineFeed}
 
--- of a line's bytes at most so many are kept: one more than it may have, so that a longer one shows
+-- at most so many bytes of a line are kept: one more than it may have, so that a longer one shows
 abbrev pub mostKept : ℕ
 mostKept = 1025
 

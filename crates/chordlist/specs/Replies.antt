@@ -14,20 +14,20 @@ use Rattle.chordlist.specs.Codes.{Line, bad, holds, codesIn}
 unfoldable pub codesText : List (List ℕ) → List ℕ → List ℕ
 codesText names codes = candidatesOf names codes ++ bytes "." ++ (10 ∷ [])
 
--- "prints `?` alone"
+-- "`?` alone"
 unfoldable pub badText : List ℕ
 badText = bytes "?" ++ (10 ∷ [])
 
--- "A bad line .. prints `?` alone"
+-- a line that can be read, and "A bad line"
 unfoldable pub heldText : List (List ℕ) → Line → List ℕ
 heldText names bad = badText
 heldText names (holds codes) = codesText names codes
 
--- "lines of at most 1,024 bytes before LF": "a longer one prints `?` alone"
+-- "lines of at most 1,024 bytes before LF"; "A bad line, or a longer one, prints `?` alone"
 unfoldable pub lineText : List (List ℕ) → List ℕ → List ℕ
 lineText names line = cond (leb (length line) 1024) (heldText names (codesIn line)) badText
 
--- the most bytes that are printed for a line
+-- room for what is printed for any line: candidates of at most 840 bytes, `.` and LF
 abbrev pub mostPrinted : ℕ
 mostPrinted = 842
 
