@@ -2,67 +2,37 @@
 use mathlib.Core.Path.{_≡_, refl, sym, _∙_}
 use Prim.Native.Nat.{_≤_}
 use native.Mathlib.Omega.{arith}
-use lib.ListN.{length as size}
+use lib.ListN.{length as size, take, length-take}
+use lib.Seq.{length-take-le}
 use borrow.Author.Needs.{needs}
+use Rattle.chordlist.specs.Pieces.{mostKept}
+use Rattle.chordlist.proofs.Printing.{fronted}
+use Rattle.chordlist.proofs.Streams.{held-short}
 use Rattle.chordlist.proofs.main.Statement.{statement}
 use Rattle.chordlist.proofs.main.Tie as tie
 
 abbrev Inv-loop : tie.InvT-loop
-Inv-loop line₀ length₀ input₀ turns₀ line length input turns = (size line ≡ 1025) × (size input ≡ 4096)
+Inv-loop line₀ length₀ input₀ turns₀ line length input turns = (size line ≡ mostKept) × (size input ≡ 4096) × (length ≤ mostKept)
 
 abbrev μ-loop : tie.MeasureT-loop
 μ-loop line₀ length₀ input₀ turns₀ line length input turns = turns
 
-buffer-requires : tie.Need-buffer-requires Inv-loop μ-loop
-buffer-requires c κs = search needs
-
-loop-holds : tie.Need-loop-holds Inv-loop μ-loop
-loop-holds c = (refl, sym (c .buffer .ensures))
-
-slice-aggregate-read : tie.Need-slice-aggregate-read Inv-loop μ-loop
-slice-aggregate-read c = sym (c .before .before .loop .inv .1)
-
-read-requires : tie.Need-read-requires Inv-loop μ-loop
-read-requires c κs = search needs
-
-slice-aggregate-count : tie.Need-slice-aggregate-count Inv-loop μ-loop
-slice-aggregate-count c = sym (c .before .before .read .kept .1 .0 ∙ c .before .before .before .before .before .loop .inv .1)
-
-count-requires : tie.Need-count-requires Inv-loop μ-loop
-count-requires c κs = search needs
-
-array-share-prefix-input : tie.Need-array-share-prefix-input Inv-loop μ-loop
-array-share-prefix-input c = c .before .count .ensures .0 .0
-
-slice-aggregate-feed : tie.Need-slice-aggregate-feed Inv-loop μ-loop
-slice-aggregate-feed c = c .before .before .count .ensures .0 .1
-
-slice-aggregate-feed-2 : tie.Need-slice-aggregate-feed-2 Inv-loop μ-loop
-slice-aggregate-feed-2 c = sym (c .before .before .before .before .before .before .before .before .before .loop .inv .0)
-
-feed-requires : tie.Need-feed-requires Inv-loop μ-loop
-feed-requires c κs = search needs
-
-sub-turns : tie.Need-sub-turns Inv-loop μ-loop
-sub-turns c = omega arith
-
-loop-less : tie.Need-loop-less Inv-loop μ-loop
-loop-less c = omega arith
-
 loop-again : tie.Need-loop-again Inv-loop μ-loop
-loop-again c = (c .before .feed .kept .1 .0 ∙ c .before .before .before .before .before .before .before .before .before .before .before .loop .inv .0, c .before .before .before .before .before .before .before .before .read .kept .1 .0 ∙ c .before .before .before .before .before .before .before .before .before .before .before .loop .inv .1)
+loop-again c =
+    let f = c .before in
+    let l = f .before .before .before .before .before .before .before .before .before .before in
+    let r = f .before .before .before .before .before .before .before in
+    let held = take (l .loop .length) (l .loop .line) in
+    let piece = take (f .before .before .before .before .count .result) (r .read .last .1 .0) in
+    let short = held-short held piece (omega (arith, length-take (l .loop .length) (l .loop .line))) in (
+      f .feed .kept .1 .0 ∙ l .loop .inv .0,
+      r .read .kept .1 .0 ∙ l .loop .inv .1,
+      omega (arith, f .feed .ensures .place, short),
+    )
 
-slice-aggregate-print : tie.Need-slice-aggregate-print Inv-loop μ-loop
-slice-aggregate-print c = sym (c .before .before .before .loop .inv .0)
-
-print-requires : tie.Need-print-requires Inv-loop μ-loop
-print-requires c κs = search needs
-
-returns : tie.Need-returns Inv-loop μ-loop
-returns c = search needs
-
-returns-2 : tie.Need-returns-2 Inv-loop μ-loop
-returns-2 c = search needs
+-- what the end has written lies within the range
+within : (c : tie.After-finish Inv-loop μ-loop) → c .finish .result ≤ size (c .finish .last .1 .0)
+within c = omega (arith, fronted (c .finish .ensures) .fits, c .finish .kept .1 .0)
 
 pub main-spec : {M : Type 1} → statement M
 main-spec =
@@ -70,20 +40,24 @@ main-spec =
     (tie.spec
     Inv-loop
     μ-loop
-    buffer-requires
-    loop-holds
-    slice-aggregate-read
-    read-requires
-    slice-aggregate-count
-    count-requires
-    array-share-prefix-input
-    slice-aggregate-feed
-    slice-aggregate-feed-2
-    feed-requires
-    sub-turns
-    loop-less
+    (λ c κs. search needs)
+    (λ c. (refl, sym (c .buffer .ensures), omega arith))
+    (λ c. sym (c .before .before .loop .inv .1))
+    (λ c κs. search needs)
+    (λ c. sym (c .before .before .read .kept .1 .0 ∙ c .before .before .before .before .before .loop .inv .1))
+    (λ c κs. search needs)
+    (λ c. c .before .count .ensures .0 .0)
+    (λ c. c .before .before .count .ensures .0 .1)
+    (λ c. sym (c .before .before .before .before .before .before .before .before .before .loop .inv .0))
+    (λ c κs. let l = c .before .before .before .before .before .before .before .before .before .loop in (l .inv .2, l .inv .0))
+    (λ c. omega arith)
+    (λ c. omega arith)
     loop-again
-    slice-aggregate-print
-    print-requires
-    returns
-    returns-2)
+    (λ c. omega arith)
+    (λ c. sym (length-take-le _ _ (omega arith)))
+    (λ c. refl)
+    (λ c κs. search needs)
+    (λ c. within (c .before))
+    (λ c. sym (length-take-le _ _ (within (c .before .before))))
+    (λ c κs. search needs)
+    (λ c. search needs))

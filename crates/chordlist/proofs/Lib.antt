@@ -1,0 +1,6 @@
+pub mod Parting
+pub mod Streams
+pub mod Reading
+pub mod Printing
+pub mod Bytewise
+pub mod Determined

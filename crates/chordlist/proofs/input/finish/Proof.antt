@@ -1,0 +1,33 @@
+-- `chordlist::input::finish` meets its contract: a last line of no bytes is none.
+use mathlib.Core.Path.{_≡_, refl, sym, ap}
+use mathlib.Core.List.{List, [], _∷_}
+use Prim.Native.Nat.{ℕ}
+use native.Mathlib.Omega.{arith}
+use lib.ListN.{length}
+use denote.Ref.{now}
+use borrow.Author.Needs.{needs}
+use Rattle.inference.specs.Names.{flats}
+use Rattle.chordlist.specs.Replies.{lineText}
+use Rattle.chordlist.specs.Pieces.{saidAtEnd}
+use Rattle.chordlist.proofs.Printing.{no-text}
+use Rattle.chordlist.proofs.input.finish.Statement.{statement}
+use Rattle.chordlist.proofs.input.finish.Tie as tie
+
+none : (line : List ℕ) → length line ≡ 0 → saidAtEnd flats line ≡ []
+unfolding saidAtEnd
+none [] e = refl
+none (b ∷ more) e = absurd (let no-way : ⊥ = omega arith in no-way)
+
+some : (line : List ℕ) → (length line ≡ 0 → ⊥) → saidAtEnd flats line ≡ lineText flats line
+unfolding saidAtEnd
+some [] other = absurd (other refl)
+some (b ∷ more) other = refl
+
+pub finish-spec : {M : Type 1} → statement M
+finish-spec =
+    tie.close
+    (tie.spec
+    (λ c. rw (none (now (c .before .before .before .args .line)) (c .if1 .taken)) (no-text (now (c .before .before .before .args .out))))
+    (λ c κs. search needs)
+    (λ c. search needs)
+    (λ c. rw (some _ (c .before .before .before .before .if1 .left)) (c .before .before .reply .ensures)))

@@ -1,0 +1,5 @@
+pub mod Parts
+pub mod Codes
+pub mod Replies
+pub mod Input
+pub mod Pieces

@@ -1,0 +1,48 @@
+// The text that answers a line: the candidates of its codes and a full stop, or a question mark.
+use crate::codes::Codes;
+use crate::codes::read_codes;
+use answer::output::Output;
+use candidates::lines::candidates;
+ghost use Prim.Native.Nat.{_≤_};
+ghost use lib.ListN.{length};
+ghost use Rattle.inference.specs.Names.{flats};
+ghost use Rattle.chordlist.specs.Replies.{codesText, lineText, mostPrinted, Printed};
+
+// Candidates have at most 840 bytes, and then comes the line `.`.
+pub const ROOM: usize = 842;
+
+// The most bytes that a line has before its end, and the most codes that those hold.
+const LONGEST: usize = 1024;
+
+const CODES: usize = 512;
+
+// Writes what is printed for a line.
+pub(crate) fn reply(line: &[u8], out: &mut [u8]) -> usize
+    requires { ⌜ mostPrinted ≤ length (now out) ⌝ }
+    ensures { λ r. ⌜ Printed (lineText flats (now (line .entry))) (now (out .entry)) r (now (out .exit)) ⌝ }
+{
+    if line.len() <= LONGEST {
+        let mut codes = [0u8; CODES];
+        if let Codes::Read(count) = read_codes(line, &mut codes) {
+            return reply_codes(&codes[..count], out);
+        }
+    }
+    out[0] = b'?';
+    out[1] = b'\n';
+    2
+}
+
+fn reply_codes(codes: &[u8], out: &mut [u8]) -> usize
+    requires { ⌜ mostPrinted ≤ length (now out) ⌝ }
+    ensures { λ r. ⌜ Printed (codesText flats (now (codes .entry))) (now (out .entry)) r (now (out .exit)) ⌝ }
+{
+    match candidates(codes, out) {
+        Output::Written(count) => {
+            out[count] = b'.';
+            out[count + 1] = b'\n';
+            count + 2
+        }
+        // Never, since there is room.
+        Output::Refused(_) => 0,
+    }
+}

@@ -1,3 +1,0 @@
-// What `chordlist` prints for a line of text.
-mod codes;
-pub mod reply;
