@@ -10,7 +10,7 @@ ghost use lib.IntN.{pos};
 ghost use Rattle.answer.specs.Replies.{text};
 ghost use Rattle.intervals.specs.Intervals.{degreeOf};
 ghost use Rattle.intervals.specs.Sets.{classCount};
-ghost use Rattle.inference.specs.Names.{flats};
+ghost use Rattle.names.specs.Names.{flats};
 ghost use Rattle.rules.specs.Suffix.{suffixReply};
 ghost use Rattle.candidates.specs.Keys.{classSet};
 ghost use Rattle.candidates.specs.Candidates.{candidatesOf};

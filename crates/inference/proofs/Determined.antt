@@ -2,12 +2,8 @@
 --     F-decides      the contract of `F` allows one answer to each call, and one content of the range that it is lent
 use denote.Ref.{now}
 use Rattle.answer.proofs.Determined.{Decides, DecidesWith, determined, both}
-use Rattle.inference.proofs.tables.class_name.Reads as class-name
 use Rattle.inference.proofs.classes.intervals.Reads as intervals
 use Rattle.inference.proofs.normalize.suffix.Reads as suffix
-
-pub class-name-decides : Decides class-name.Post
-class-name-decides κs a r r′ s s′ = determined
 
 pub intervals-decides : Decides intervals.Post
 intervals-decides κs a r r′ s s′ = determined

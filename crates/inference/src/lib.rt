@@ -3,5 +3,4 @@ pub mod classes;
 mod kinds;
 pub mod normalize;
 mod reading;
-pub mod tables;
 mod wording;

@@ -8,7 +8,7 @@ use candidates::lines::candidates;
 ghost use Prim.Native.Nat.{_≤_};
 ghost use lib.ListN.{length};
 ghost use Rattle.answer.specs.Replies.{text, Answered};
-ghost use Rattle.inference.specs.Names.{flats};
+ghost use Rattle.names.specs.Names.{flats};
 ghost use Rattle.line.specs.Replies.{codesText, lineText};
 
 // The most bytes that a line has before its end, and the most codes that those hold.

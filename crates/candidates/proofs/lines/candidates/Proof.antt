@@ -7,7 +7,7 @@ use lib.ListN.{length, take}
 use denote.Ref.{now}
 use borrow.Author.Needs.{needs}
 use Rattle.answer.proofs.Writing.{counted, within}
-use Rattle.inference.specs.Names.{flats}
+use Rattle.names.specs.Names.{flats}
 use Rattle.candidates.specs.Keys.{Finds}
 use Rattle.candidates.specs.Candidates.{Classes, listing, candidatesOf}
 use Rattle.candidates.proofs.Heard.{firsts-heard, firsts-less}

@@ -9,7 +9,7 @@ use denote.Ref.{now}
 use borrow.Author.Needs.{needs}
 use borrow.Author.Tests.{le-leb, lt-leb}
 use Rattle.answer.specs.Words.{bytes}
-use Rattle.inference.specs.Names.{flats}
+use Rattle.names.specs.Names.{flats}
 use Rattle.line.specs.Codes.{Line, bad, holds, Reads, codesIn}
 use Rattle.line.specs.Replies.{codesText, badText, heldText, lineText}
 use Rattle.line.specs.declared.codes.Codes.{Codes}

@@ -14,7 +14,8 @@ use Rattle.answer.specs.declared.output.Output.the-variants.{Written}
 use Rattle.answer.proofs.Digits.{isShort, areBytes}
 use Rattle.answer.proofs.Rooms.{written}
 use Rattle.answer.specs.Written.{Writes}
-use Rattle.inference.specs.Names.{flats}
+use Rattle.names.specs.Names.{flats}
+use Rattle.names.proofs.Named.{flats-brief}
 use Rattle.answer.proofs.Writing.{put-short}
 use Rattle.candidates.specs.Candidates.{candidatesOf}
 use Rattle.candidates.proofs.Listed.{candidates-length}
@@ -35,7 +36,7 @@ gives t room left r h k gave =
 
 -- what the call for them gave
 given : (c : tie.After-candidates) → (c .candidates .result ≡ Written (length (all-of c))) × (take (length (all-of c)) (c .candidates .last .1 .0) ≡ all-of c)
-given c = gives (all-of c) _ _ _ (candidates-length (now (c .before .before .before .before .args .codes))) (search needs) (c .candidates .ensures)
+given c = gives (all-of c) _ _ _ (candidates-length flats flats-brief (now (c .before .before .before .before .args .codes))) (search needs) (c .candidates .ensures)
 
 -- how many bytes they are
 count-is : (c : tie.After-count) → c .count .given .0 .0 ≡ length (all-of (c .before .before .before))
@@ -48,7 +49,7 @@ stopped c =
     let n = c .before .before .before in
     let d = n .before .before .before in
     put-short (46 ∷ 10 ∷ []) tt _ _ _ _ _ refl
-    (omega (arith, count-is n, candidates-length (now (d .before .before .before .before .args .codes)), d .candidates .kept .1 .0)) (c .put .ensures)
+    (omega (arith, count-is n, candidates-length flats flats-brief (now (d .before .before .before .before .args .codes)), d .candidates .kept .1 .0)) (c .put .ensures)
 
 stands : (c : tie.After-put) → take (c .put .result) (c .put .last .0) ≡ codesText flats (now (c .before .before .before .before .before .before .before .before .before .before .args .codes))
 unfolding codesText bytes
@@ -64,7 +65,7 @@ counts c =
     let n = c .before .before .before in
     let d = n .before .before .before in
     sym (length-take-le (c .put .result) (c .put .last .0)
-    (omega (arith, stopped c .place, count-is n, candidates-length (now (d .before .before .before .before .args .codes)), d .candidates .kept .1 .0, c .put .kept .0)))
+    (omega (arith, stopped c .place, count-is n, candidates-length flats flats-brief (now (d .before .before .before .before .args .codes)), d .candidates .kept .1 .0, c .put .kept .0)))
 
 returns : tie.Need-returns
 returns c = rw (stands (c .before .before .before .before .before .before)) at (c .before .before .give .ensures)
