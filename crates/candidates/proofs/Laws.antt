@@ -18,7 +18,7 @@ use Rattle.rules.proofs.Short.{suffix-line}
 use Rattle.candidates.specs.Keys.{seenFrom, classSet, firsts}
 use Rattle.candidates.specs.Candidates.{Classes, chord, over, line, lines, listing, candidatesOf}
 use Rattle.intervals.proofs.Counted.{class-count}
-use Rattle.candidates.proofs.Heard.{firsts-heard, firsts-less, set-count, set-less, set-of-firsts}
+use Rattle.candidates.proofs.Heard.{firsts-classes, set-count, set-less, set-of-firsts}
 use Rattle.candidates.proofs.Turned.{seen-less, seen-rooted}
 
 over-line : (first : List ℕ) → lineFeeds first ≡ 0 → lineFeeds (over first) ≡ 0
@@ -57,7 +57,7 @@ module _ (table : List Note) (brief : T (areBrief table)) where
   pub lines-counted : (keys : List ℕ) → lineFeeds (candidatesOf table keys) ≡ classCount (classSet keys)
   unfolding candidatesOf
   lines-counted keys =
-      listing-feeds (classSet keys) (firsts keys) (λ i h. (firsts-less keys i h, firsts-heard keys i h))
+      listing-feeds (classSet keys) (firsts keys) (firsts-classes keys)
       ∙ sym (set-count keys) ∙ class-count (classSet keys) (set-less keys)
 
 -- lists whose classes occur first in the same order have the same candidates

@@ -20,7 +20,7 @@ use Rattle.rules.specs.Suffix.{suffixOf}
 use Rattle.rules.proofs.Short.{suffix-short}
 use Rattle.candidates.specs.Keys.{seenFrom, classSet, firsts}
 use Rattle.candidates.specs.Candidates.{Classes, chord, over, line, lines, listing, candidatesOf}
-use Rattle.candidates.proofs.Heard.{firsts-heard, firsts-less, firsts-few}
+use Rattle.candidates.proofs.Heard.{firsts-classes, firsts-few}
 use Rattle.candidates.proofs.Parts.{part-adds}
 use Rattle.candidates.proofs.Turned.{seen-less, seen-rooted}
 
@@ -135,4 +135,4 @@ module _ (table : List Note) (brief : T (areBrief table)) where
   pub candidates-length : (keys : List ℕ) → length (candidatesOf table keys) ≤ 840
   unfolding candidatesOf
   candidates-length keys =
-      omega (arith, listing-length (classSet keys) (firsts keys) (λ i h. (firsts-less keys i h, firsts-heard keys i h)), firsts-few keys)
+      omega (arith, listing-length (classSet keys) (firsts keys) (firsts-classes keys), firsts-few keys)

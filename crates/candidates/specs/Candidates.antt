@@ -8,6 +8,8 @@ use Rattle.answer.specs.Words.{bytes}
 use Rattle.intervals.specs.Sets.{has}
 use Rattle.notes.specs.declared.note.Note.{Note}
 use Rattle.names.specs.Names.{nameOf}
+-- the code's table, passed on to those that cite the candidates
+pub use Rattle.names.specs.Names.{flats}
 use Rattle.rules.specs.Suffix.{suffixOf}
 use Rattle.candidates.specs.Keys.{seenFrom, classSet, firsts}
 

@@ -13,8 +13,8 @@ use Rattle.notes.specs.declared.note.NoteAnswer.{NoteAnswer}
 use Rattle.notes.specs.declared.note.NoteAnswer.the-variants.{Is, Refused}
 
 -- a letter with no accidental
-abbrev pub natural : ℕ → Note
-natural letter = noteOf letter (pos 0)
+abbrev pub plain : ℕ → Note
+plain letter = noteOf letter (pos 0)
 
 -- a letter with one flat
 abbrev pub flat : ℕ → Note
@@ -23,7 +23,7 @@ flat letter = noteOf letter (negsuc 0)
 -- "Names are C Db D Eb E F Gb G Ab A Bb B", where "Letters 0..6 are C D E F G A B"
 unfoldable pub flats : List Note
 flats =
-    natural 0 ∷ flat 1 ∷ natural 1 ∷ flat 2 ∷ natural 2 ∷ natural 3 ∷ flat 4 ∷ natural 4 ∷ flat 5 ∷ natural 5 ∷ flat 6 ∷ natural 6 ∷ []
+    plain 0 ∷ flat 1 ∷ plain 1 ∷ flat 2 ∷ plain 2 ∷ plain 3 ∷ flat 4 ∷ plain 4 ∷ flat 5 ∷ plain 5 ∷ flat 6 ∷ plain 6 ∷ []
 
 -- the name of a class in a table is its note's text; a number past the table has none
 abbrev pub nameOf : List Note → ℕ → List ℕ

@@ -6,7 +6,7 @@ use Rattle.answer.specs.Words.{bytes}
 use Rattle.answer.specs.Replies.{Reply, refuse, text}
 use Rattle.answer.specs.declared.refusal.Refusal.the-variants.{NotASet}
 use Rattle.intervals.specs.Sets.{isRooted}
-use Rattle.intervals.specs.Intervals.{semitonesOf, numericOf}
+use Rattle.intervals.specs.Intervals.{semitonesOf, degreeOf, numericOf}
 use Rattle.intervals.specs.declared.interval.Interval.{Interval}
 use Rattle.intervals.specs.declared.interval.IntDegree.{IntDegree}
 use Rattle.intervals.specs.declared.interval.Numbered.{Numbered}
@@ -18,6 +18,10 @@ use Rattle.notes.specs.declared.note.NoteAnswer.{NoteAnswer}
 use Rattle.notes.specs.declared.note.NoteAnswer.the-variants as Root
 use Rattle.names.specs.Names.{flats, noteIn}
 use Rattle.rules.specs.Classes.{intervalsOf}
+
+-- "its degree by the `From<Interval>` table": the code's table, chosen here
+abbrev pub spelledBy : Interval → IntDegree
+spelledBy = degreeOf
 
 -- the note of an interval above a root: "through `get_note` with its semitones and its degree"
 unfoldable pub toneOf : (Interval → IntDegree) → Note → Interval → Note

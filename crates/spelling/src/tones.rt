@@ -17,11 +17,11 @@ ghost use lib.ListN.{length};
 ghost use Rattle.answer.specs.Replies.{text, Answered};
 ghost use Rattle.answer.specs.Words.{packed};
 ghost use Rattle.answer.specs.Written.{Writes};
-ghost use Rattle.intervals.specs.Intervals.{numbered, degreeOf};
+ghost use Rattle.intervals.specs.Intervals.{numbered};
 ghost use Rattle.notes.specs.Notes.{isNote, isMove, getNote};
 ghost use Rattle.notes.specs.NoteText.{signs, noteName};
 ghost use Rattle.rules.specs.Classes.{intervalsIn};
-ghost use Rattle.spelling.specs.Tones.{numberedName, toneNames, spaced, tonesOf, tonesReply};
+ghost use Rattle.spelling.specs.Tones.{spelledBy, numberedName, toneNames, spaced, tonesOf, tonesReply};
 
 // A space, as a word.
 const SPACE: u64 = 0x0100000000000020;
@@ -43,7 +43,7 @@ fn tone_word(root: Note, semitones: u32, degree: u32) -> u64
 // The name of the tone at the interval of a number; where there is none, the empty word.
 fn numbered_word(root: Note, number: u32) -> u64
     requires { ⌜ isNote root ≡ true ⌝ }
-    ensures { λ r. ⌜ r ≡ packed (numberedName degreeOf root (numbered number)) ⌝ }
+    ensures { λ r. ⌜ r ≡ packed (numberedName spelledBy root (numbered number)) ⌝ }
 {
     match Interval::from_number(number) {
         Numbered::Is(interval) => {
@@ -57,7 +57,7 @@ fn numbered_word(root: Note, number: u32) -> u64
 // Writes each tone of a set of intervals behind a space, to the front of a buffer.
 fn put_tones(buffer: &mut [u8], root: Note, set: u32) -> usize
     requires { ⌜ (isNote root ≡ true) × (set < 2 ^ 23) × (8 * length (intervalsIn set) + 8 ≤ length (now buffer)) ⌝ }
-    ensures { λ r. ⌜ Writes (now (buffer .entry)) 0 (spaced (toneNames degreeOf root (intervalsIn set))) r (now (buffer .exit)) ⌝ }
+    ensures { λ r. ⌜ Writes (now (buffer .entry)) 0 (spaced (toneNames spelledBy root (intervalsIn set))) r (now (buffer .exit)) ⌝ }
 {
     let mut at = 0;
     let mut left = set;
@@ -73,7 +73,7 @@ fn put_tones(buffer: &mut [u8], root: Note, set: u32) -> usize
 // The tones of a rooted set on a root. The first has a space before it too, which is not given.
 fn tones_on(root: Note, set: u32, out: &mut [u8]) -> Output
     requires { ⌜ (isNote root ≡ true) × (set < 4096) × (set % 2 ≡ 1) ⌝ }
-    ensures { λ r. ⌜ Answered (text (tonesOf degreeOf root set)) (now (out .entry)) r (now (out .exit)) ⌝ }
+    ensures { λ r. ⌜ Answered (text (tonesOf spelledBy root set)) (now (out .entry)) r (now (out .exit)) ⌝ }
 {
     let mut buffer = [0u8; ROOM];
     let end = put_tones(&mut buffer, root, intervals(set));
@@ -82,7 +82,7 @@ fn tones_on(root: Note, set: u32, out: &mut [u8]) -> Output
 
 // The tones of a rooted set on a root class, written to the front of `out`.
 pub fn tones(root: u32, set: u32, out: &mut [u8]) -> Output
-    ensures { λ r. ⌜ Answered (tonesReply degreeOf root set) (now (out .entry)) r (now (out .exit)) ⌝ }
+    ensures { λ r. ⌜ Answered (tonesReply spelledBy root set) (now (out .entry)) r (now (out .exit)) ⌝ }
 {
     if !is_rooted(set) {
         return Output::Refused(Refusal::NotASet);

@@ -2,8 +2,9 @@
 use mathlib.Core.Path.{_≡_, sym, _∙_}
 use borrow.Author.Needs.{needs}
 use Rattle.answer.specs.Words.{low, packed}
-use Rattle.intervals.specs.Intervals.{numbered, degreeOf}
+use Rattle.intervals.specs.Intervals.{numbered}
 use Rattle.intervals.specs.declared.interval.Numbered.the-variants.{Is}
+use Rattle.spelling.specs.Tones.{spelledBy}
 use Rattle.spelling.proofs.Spelled.{interval-moves, tone-worded}
 use Rattle.spelling.proofs.tones.numbered_word.Statement.{statement}
 use Rattle.spelling.proofs.tones.numbered_word.Tie as tie
@@ -17,7 +18,7 @@ returns c =
     let n = c .before in
     let d = n .before .before in
     let i = d .before .before in
-    tone-worded degreeOf _ _ (i .interval .given .0 .0) _ _ _ _ (named i) (d .degree .ensures) (n .before .st .ensures) (n .numeric .ensures) (c .tone-word .ensures)
+    tone-worded spelledBy _ _ (i .interval .given .0 .0) _ _ _ _ (named i) (d .degree .ensures) (n .before .st .ensures) (n .numeric .ensures) (c .tone-word .ensures)
 
 returns-2 : tie.Need-returns-2
 unfolding low packed
@@ -29,7 +30,7 @@ tone-word-requires : tie.Need-tone-word-requires
 tone-word-requires c κs =
     let d = c .before .before in
     let i = d .before .before in
-    (i .before .before .before .pre, rw (c .before .st .ensures, c .numeric .ensures, d .degree .ensures) (interval-moves degreeOf (i .interval .given .0 .0)))
+    (i .before .before .before .pre, rw (c .before .st .ensures, c .numeric .ensures, d .degree .ensures) (interval-moves spelledBy (i .interval .given .0 .0)))
 
 pub numbered-word-spec : {M : Type 1} → statement M
 numbered-word-spec =

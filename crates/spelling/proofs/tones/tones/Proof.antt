@@ -8,12 +8,11 @@ use Rattle.answer.specs.Replies.{Reply, Answered}
 use Rattle.answer.proofs.Rooms.{refused-by}
 use Rattle.answer.proofs.Tests.{refused, admitted}
 use Rattle.intervals.specs.Sets.{isRooted}
-use Rattle.intervals.specs.Intervals.{degreeOf}
 use Rattle.intervals.proofs.Rooted.{rooted-small, rooted-odd}
 use Rattle.notes.specs.declared.note.NoteAnswer.the-variants.{Is, Refused}
 use Rattle.names.specs.Names.{flats, noteIn}
 use Rattle.names.proofs.Named.{flats-brief, note-in}
-use Rattle.spelling.specs.Tones.{tonesOn}
+use Rattle.spelling.specs.Tones.{spelledBy, tonesOn}
 use Rattle.spelling.proofs.Replied.{not-rooted, by-the-note}
 use Rattle.spelling.proofs.tones.tones.Statement.{statement}
 use Rattle.spelling.proofs.tones.tones.Tie as tie
@@ -41,7 +40,7 @@ returns-2 c =
     let e = n .before .before .before in
     let s = e .before .before .before in
     subst (λ (x : Reply). Answered x (now (s .args .out)) (t .tones-on .result) (t .tones-on .last .1 .1 .0))
-    (sym (by-the-note degreeOf (s .args .root) (s .args .set) (is-rooted e) _ (root-is n))) (t .tones-on .ensures)
+    (sym (by-the-note spelledBy (s .args .root) (s .args .set) (is-rooted e) _ (root-is n))) (t .tones-on .ensures)
 
 returns-3 : tie.Need-returns-3
 unfolding tonesOn
@@ -49,14 +48,14 @@ returns-3 c =
     let w = c .before in
     let n = w .before .before in
     let s = n .before .before .before .before in
-    refused-by _ _ _ (by-the-note degreeOf (s .args .root) (s .args .set) (is-rooted (n .before)) (Refused (w .why .given .0 .0)) (sym (n .class-note .ensures) ∙ w .why .given .1))
+    refused-by _ _ _ (by-the-note spelledBy (s .args .root) (s .args .set) (is-rooted (n .before)) (Refused (w .why .given .0 .0)) (sym (n .class-note .ensures) ∙ w .why .given .1))
 
 pub tones-spec : {M : Type 1} → statement M
 tones-spec =
     tie.close
     (tie.spec
     (λ c κs. search needs)
-    (λ c. refused-by _ _ _ (not-rooted degreeOf _ _ (refused _ _ (c .before .is-rooted .ensures) (c .if1 .taken))))
+    (λ c. refused-by _ _ _ (not-rooted spelledBy _ _ (refused _ _ (c .before .is-rooted .ensures) (c .if1 .taken))))
     (λ c κs. search needs)
     (λ c. search needs)
     tones-on-requires

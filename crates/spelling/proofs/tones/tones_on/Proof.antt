@@ -6,10 +6,10 @@ use native.Mathlib.Nat.{zero-add, mod-eq-of-lt}
 use native.Mathlib.Omega.{arith}
 use lib.ListN.{length, take}
 use borrow.Author.Needs.{needs}
-use Rattle.intervals.specs.Intervals.{degreeOf, setOf}
+use Rattle.intervals.specs.Intervals.{setOf}
 use Rattle.intervals.specs.declared.interval.Interval.{Interval}
 use Rattle.rules.specs.Classes.{intervalsIn, intervalsOf}
-use Rattle.spelling.specs.Tones.{toneNames, spaced, tonesOf}
+use Rattle.spelling.specs.Tones.{spelledBy, toneNames, spaced, tonesOf}
 use Rattle.spelling.proofs.Counted.{at-least-one, at-most-twelve, set-less, set-reads}
 use Rattle.spelling.proofs.Row.{row-some, row-long, given}
 use Rattle.spelling.proofs.tones.tones_on.Statement.{statement}
@@ -31,17 +31,17 @@ put-tones-requires c κs =
 -- the row of tones, and how long it is
 stands : (c : tie.After-put-tones)
     → take (c .put-tones .result) (c .put-tones .last .0)
-    ≡ spaced (toneNames degreeOf (c .before .before .before .before .args .root) (intervalsOf (c .before .before .before .before .args .set)))
+    ≡ spaced (toneNames spelledBy (c .before .before .before .before .args .root) (intervalsOf (c .before .before .before .before .args .set)))
 stands c =
     c .put-tones .ensures .added
-    ∙ ap (λ (l : List Interval). spaced (toneNames degreeOf (c .before .before .before .before .args .root) l)) (all-found (c .before))
+    ∙ ap (λ (l : List Interval). spaced (toneNames spelledBy (c .before .before .before .before .args .root) l)) (all-found (c .before))
 
 counts : (c : tie.After-put-tones) → (1 ≤ c .put-tones .result) × (c .put-tones .result ≤ length (c .put-tones .last .0))
 counts c =
     let s = c .before .before .before .before in
     let place = c .put-tones .ensures .place ∙ zero-add _ ∙ ap length (sym (c .put-tones .ensures .added) ∙ stands c) in
-    let least = row-some degreeOf (s .args .root) (intervalsOf (s .args .set)) (at-least-one (s .args .set) (s .pre .1) (s .pre .2)) in
-    let most = row-long degreeOf (s .args .root) (intervalsOf (s .args .set)) in
+    let least = row-some spelledBy (s .args .root) (intervalsOf (s .args .set)) (at-least-one (s .args .set) (s .pre .1) (s .pre .2)) in
+    let most = row-long spelledBy (s .args .root) (intervalsOf (s .args .set)) in
     let twelve = at-most-twelve (s .args .set) (s .pre .1) (s .pre .2) in
     (rw place least, omega (arith, place, most, twelve, c .put-tones .kept .0))
 
@@ -51,7 +51,7 @@ returns c =
     let g = c .before .before in
     let put = g .before .before .before .before .before in
     let s = put .before .before .before .before in
-    rw (given degreeOf (s .args .root) (intervalsOf (s .args .set)) (put .put-tones .last .0) (put .put-tones .result) (at-least-one (s .args .set) (s .pre .1) (s .pre .2)) (stands put))
+    rw (given spelledBy (s .args .root) (intervalsOf (s .args .set)) (put .put-tones .last .0) (put .put-tones .result) (at-least-one (s .args .set) (s .pre .1) (s .pre .2)) (stands put))
     at (g .give .ensures)
 
 pub tones-on-spec : {M : Type 1} → statement M
