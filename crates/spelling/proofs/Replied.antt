@@ -1,6 +1,6 @@
 -- What a call for the tones has to give, by the tests on its numbers, for any table of degrees.
-use mathlib.Core.Path.{_≡_}
-use mathlib.Core.Bool.{true, false}
+use mathlib.Core.Path.{_≡_, ap}
+use mathlib.Core.Bool.{Bool, true, false, cond}
 use Prim.Native.Nat.{ℕ}
 use Rattle.answer.specs.Replies.{refuse}
 use Rattle.answer.specs.declared.refusal.Refusal.the-variants.{NotASet}
@@ -14,7 +14,7 @@ use Rattle.spelling.specs.Tones.{tonesOn, tonesReply}
 module _ (degrees : Interval → IntDegree) (root s : ℕ) where
   pub not-rooted : isRooted s ≡ false → tonesReply degrees root s ≡ refuse NotASet
   unfolding tonesReply
-  not-rooted e = rw e
+  not-rooted e = ap (λ (b : Bool). cond b (tonesOn degrees (noteIn flats root) s) (refuse NotASet)) e
 
   pub by-the-note : isRooted s ≡ true → (n : NoteAnswer) → noteIn flats root ≡ n → tonesReply degrees root s ≡ tonesOn degrees n s
   unfolding tonesReply

@@ -1,11 +1,13 @@
 -- `spelling::tones::tones_on` meets its contract: a row of the set's tones, of which all but the first space is given.
-use mathlib.Core.Path.{_≡_, sym, ap, _∙_}
+use mathlib.Core.Path.{_≡_, sym, ap, subst, _∙_}
 use mathlib.Core.List.{List}
 use Prim.Native.Nat.{ℕ, _≤_}
 use native.Mathlib.Nat.{zero-add, mod-eq-of-lt}
 use native.Mathlib.Omega.{arith}
 use lib.ListN.{length, take}
+use denote.Ref.{now}
 use borrow.Author.Needs.{needs}
+use Rattle.answer.specs.Replies.{text, Answered}
 use Rattle.intervals.specs.Intervals.{setOf}
 use Rattle.intervals.specs.declared.interval.Interval.{Interval}
 use Rattle.rules.specs.Classes.{intervalsIn, intervalsOf}
@@ -51,8 +53,8 @@ returns c =
     let g = c .before .before in
     let put = g .before .before .before .before .before in
     let s = put .before .before .before .before in
-    rw (given spelledBy (s .args .root) (intervalsOf (s .args .set)) (put .put-tones .last .0) (put .put-tones .result) (at-least-one (s .args .set) (s .pre .1) (s .pre .2)) (stands put))
-    at (g .give .ensures)
+    let row = given spelledBy (s .args .root) (intervalsOf (s .args .set)) (put .put-tones .last .0) (put .put-tones .result) (at-least-one (s .args .set) (s .pre .1) (s .pre .2)) (stands put) in
+    subst (λ (t : List ℕ). Answered (text t) (now (s .args .out)) (g .give .result) (g .give .last .1 .0)) row (g .give .ensures)
 
 pub tones-on-spec : {M : Type 1} → statement M
 tones-on-spec =
