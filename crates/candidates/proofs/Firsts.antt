@@ -101,7 +101,7 @@ found keys order s count long f =
       size = sym (ap length (sym classes) ∙ length-take-le count order (omega arith));
       classes = classes;
       small = f .small;
-      few = most;
+      atMostTwelve = most;
     }
 
 pub bit-held : (key : ℕ) → 1 * 2 ^ keyClass key % 2 ^ 32 ≡ 2 ^ keyClass key

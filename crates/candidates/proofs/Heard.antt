@@ -1,11 +1,4 @@
 -- What the classes of a list of keys are: those that some key has, each once, and all that a listing depends on.
---     set-heard       a class is in the set of a list exactly where some key has it
---     set-count       the set has as many classes as there are first occurrences
---     firsts-heard    a first occurrence is in the set
---     firsts-less     and is a class
---     set-of-firsts   the set depends on the first occurrences alone
---     set-less        it is a set
---     firsts-few      and they are at most twelve
 use mathlib.Core.Path.{_≡_, refl, sym, ap, subst, _∙_}
 use mathlib.Core.Bool.{Bool, true, false, _||_, or-assoc, or-comm, or-true, or-false}
 use mathlib.Core.List.{List, [], _∷_}
@@ -19,6 +12,7 @@ use lib.Pow.{pow-lt}
 use borrow.Author.Tests.{eq-eqb, eqb-true}
 use Rattle.intervals.specs.Sets.{has}
 use Rattle.candidates.specs.Keys.{keyClass, gathered, classSet, fresh, firsts, isHeard}
+use Rattle.candidates.specs.Candidates.{Classes}
 use Rattle.intervals.proofs.Members.{joined-less, joined-ones, joined-has}
 use Rattle.candidates.proofs.Firsts.{gathered-old, gathered-new, fresh-old, fresh-new}
 
@@ -45,6 +39,7 @@ gathered-has s (key ∷ more) c = by-case (has s (keyClass key)) refl (gathered-
         ∙ ap (λ (b : Bool). b || isHeard c more) (joined-has s (keyClass key) new c ∙ or-comm (eqb c (keyClass key)) (has s c))
         ∙ or-assoc (has s c) (eqb c (keyClass key)) (isHeard c more)
 
+-- a class is in the set of a list exactly where some key has it
 pub set-heard : (keys : List ℕ) (c : ℕ) → has (classSet keys) c ≡ isHeard c keys
 unfolding classSet has
 set-heard keys c = gathered-has 0 keys c ∙ ap (λ (n : ℕ). eqb (n % 2) 1 || isHeard c keys) (zero-div (2 ^ c))
@@ -64,6 +59,7 @@ gathered-ones s (key ∷ more) = by-case (has s (keyClass key)) refl (gathered-o
         ∙ suc-add (ones s) (length (fresh (s + 2 ^ keyClass key) more)) ∙ sym (add-suc (ones s) (length (fresh (s + 2 ^ keyClass key) more)))
         ∙ ap (λ (l : List ℕ). ones s + length l) (sym (fresh-new s key more new))
 
+-- the set has as many classes as there are first occurrences
 pub set-count : (keys : List ℕ) → ones (classSet keys) ≡ length (firsts keys)
 unfolding classSet firsts ones
 set-count keys = gathered-ones 0 keys ∙ zero-add (length (fresh 0 keys))
@@ -94,13 +90,17 @@ fresh-heard s (key ∷ more) i h = by-case (has s (keyClass key)) refl (fresh-he
         subst (λ (l : List ℕ). Heard (key ∷ more) l i) (sym (fresh-new s key more new)) (heard-new key more (fresh (s + 2 ^ keyClass key) more) next i)
 
 module _ (keys : List ℕ) (i : ℕ) (inside : i < length (firsts keys)) where
-  pub firsts-heard : has (classSet keys) (getD (firsts keys) i 0) ≡ true
+  firsts-heard : has (classSet keys) (getD (firsts keys) i 0) ≡ true
   unfolding firsts
   firsts-heard = set-heard keys (getD (firsts keys) i 0) ∙ fresh-heard 0 keys i inside .0
 
-  pub firsts-less : getD (firsts keys) i 0 < 12
+  firsts-less : getD (firsts keys) i 0 < 12
   unfolding firsts
   firsts-less = fresh-heard 0 keys i inside .1
+
+-- the first occurrences are classes of the set
+pub firsts-classes : (keys : List ℕ) → Classes (classSet keys) (firsts keys)
+firsts-classes keys i inside = (firsts-less keys i inside, firsts-heard keys i inside)
 
 -- a class is the class of the key of its own number
 own-class : (key : ℕ) → keyClass (keyClass key) ≡ keyClass key
@@ -121,6 +121,7 @@ gathered-fresh s (key ∷ more) = by-case (has s (keyClass key)) refl (gathered-
         ∙ ap (λ (c : ℕ). gathered (s + 2 ^ c) (fresh (s + 2 ^ keyClass key) more)) (own-class key)
         ∙ next ∙ sym (gathered-new s key more new)
 
+-- the set depends on the first occurrences alone
 pub set-of-firsts : (keys : List ℕ) → classSet (firsts keys) ≡ classSet keys
 unfolding classSet firsts
 set-of-firsts keys = gathered-fresh 0 keys
@@ -141,5 +142,6 @@ pub set-less : (keys : List ℕ) → classSet keys < 4096
 unfolding classSet
 set-less keys = gathered-less 0 keys (lit< tt)
 
+-- there are at most twelve
 pub firsts-few : (keys : List ℕ) → length (firsts keys) ≤ 12
 firsts-few keys = rw (sym (set-count keys)) (ones-le 12 (classSet keys) (set-less keys))

@@ -1,11 +1,4 @@
--- Candidates: paper 01, "Candidates", for a table of twelve class names.
---     chord           a class as a root: "its class name, the suffix of the list seen from it"
---     over            "`/` and the first code's name"
---     line            a candidate: the chord, and what stands behind it; "Each ends with LF"
---     lines           the candidates of some classes, each with the same behind it
---     listing         the candidates of the classes of a list: over the first, "unless it is the first code"
---     candidatesOf    the candidates of a list of keys
---     Classes         each byte of a run is a class of a set
+-- Candidates: paper 01, "Candidates", for any table of the classes as notes.
 use mathlib.Core.Path.{_≡_}
 use mathlib.Core.Bool.{true}
 use mathlib.Core.List.{List, [], _∷_, _++_}
@@ -13,29 +6,38 @@ use Prim.Native.Nat.{ℕ, _<_}
 use lib.ListN.{length, getD}
 use Rattle.answer.specs.Words.{bytes}
 use Rattle.intervals.specs.Sets.{has}
-use Rattle.inference.specs.Names.{nameOf}
+use Rattle.notes.specs.declared.note.Note.{Note}
+use Rattle.names.specs.Names.{nameOf}
+-- the code's table, passed on to those that cite the candidates
+pub use Rattle.names.specs.Names.{flats}
 use Rattle.rules.specs.Suffix.{suffixOf}
 use Rattle.candidates.specs.Keys.{seenFrom, classSet, firsts}
 
-unfoldable pub chord : List (List ℕ) → ℕ → ℕ → List ℕ
-chord names set class = nameOf names class ++ suffixOf (seenFrom class set)
+-- a class as a root: "its class name, the suffix of the list seen from it"
+unfoldable pub chord : List ℕ → ℕ → ℕ → List ℕ
+chord name set class = name ++ suffixOf (seenFrom class set)
 
-unfoldable pub over : List (List ℕ) → ℕ → List ℕ
-over names first = bytes "/" ++ nameOf names first
+-- "`/` and the first code's name"
+unfoldable pub over : List ℕ → List ℕ
+over first = bytes "/" ++ first
 
-unfoldable pub line : List (List ℕ) → ℕ → List ℕ → ℕ → List ℕ
-line names set behind class = chord names set class ++ behind ++ (10 ∷ [])
+-- a candidate: the chord, and what stands behind it; "Each ends with LF"
+unfoldable pub line : List ℕ → ℕ → List ℕ → ℕ → List ℕ
+line name set behind class = chord name set class ++ behind ++ (10 ∷ [])
 
-unfoldable pub lines : List (List ℕ) → ℕ → List ℕ → List ℕ → List ℕ
-lines names set behind [] = []
-lines names set behind (class ∷ more) = line names set behind class ++ lines names set behind more
+-- the candidates of some classes, each with the same behind it
+unfoldable pub lines : List Note → ℕ → List ℕ → List ℕ → List ℕ
+lines table set behind [] = []
+lines table set behind (class ∷ more) = line (nameOf table class) set behind class ++ lines table set behind more
 
-unfoldable pub listing : List (List ℕ) → ℕ → List ℕ → List ℕ
-listing names set [] = []
-listing names set (first ∷ rest) = line names set [] first ++ lines names set (over names first) rest
+-- the candidates of the classes of a list: over the first, "unless it is the first code"
+unfoldable pub listing : List Note → ℕ → List ℕ → List ℕ
+listing table set [] = []
+listing table set (first ∷ rest) = line (nameOf table first) set [] first ++ lines table set (over (nameOf table first)) rest
 
-unfoldable pub candidatesOf : List (List ℕ) → List ℕ → List ℕ
-candidatesOf names keys = listing names (classSet keys) (firsts keys)
+-- the candidates of a list of keys: "For each code in list order whose class hasn't occurred"
+unfoldable pub candidatesOf : List Note → List ℕ → List ℕ
+candidatesOf table keys = listing table (classSet keys) (firsts keys)
 
 -- each byte of a run is a class of a set
 abbrev pub Classes : ℕ → List ℕ → Type 0

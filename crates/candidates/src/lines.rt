@@ -5,7 +5,7 @@ use answer::output::Output;
 use answer::output::give;
 use answer::word::put;
 use inference::normalize::suffix;
-use inference::tables::class_name;
+use names::table::class_name;
 ghost use mathlib.Core.Path.{_≡_};
 ghost use mathlib.Core.Bool.{true};
 ghost use mathlib.Core.List.{[], _++_};
@@ -14,10 +14,12 @@ ghost use lib.ListN.{length, take};
 ghost use Rattle.answer.specs.Replies.{text, Answered};
 ghost use Rattle.intervals.specs.Sets.{has, classCount};
 ghost use Rattle.answer.specs.Written.{Writes};
-ghost use Rattle.inference.specs.Names.{nameOf, flats};
+ghost use Rattle.answer.specs.Words.{long};
+ghost use Rattle.names.specs.Names.{flats};
 ghost use Rattle.rules.specs.Suffix.{suffixOf};
 ghost use Rattle.candidates.specs.Keys.{seenFrom, classSet};
 ghost use Rattle.candidates.specs.Candidates.{Classes, chord, over, line, listing, candidatesOf};
+ghost use Rattle.candidates.specs.Texts.{textOf};
 
 // A slash, and the end of a line.
 const SLASH: u64 = 0x010000000000002f;
@@ -36,38 +38,38 @@ fn put_suffix(out: &mut [u8], at: usize, set: u32) -> usize
 }
 
 // A class as a root: its name, and the suffix of the set seen from it.
-fn put_chord(out: &mut [u8], class: u32, set: u32) -> usize
-    requires { ⌜ (class < 12) × (set < 4096) × (has set class ≡ true) × (66 ≤ length (now out)) ⌝ }
-    ensures { λ r. ⌜ Writes (now (out .entry)) 0 (chord flats set class) r (now (out .exit)) ⌝ }
+fn put_chord(out: &mut [u8], name: u64, class: u32, set: u32) -> usize
+    requires { ⌜ (long name ≤ 2) × (class < 12) × (set < 4096) × (has set class ≡ true) × (66 ≤ length (now out)) ⌝ }
+    ensures { λ r. ⌜ Writes (now (out .entry)) 0 (chord (textOf name) set class) r (now (out .exit)) ⌝ }
 {
-    let named = put(out, 0, class_name(class));
+    let named = put(out, 0, name);
     put_suffix(out, named, seen_from(class, set))
 }
 
 // A slash, and the name of the first class.
-fn put_over(out: &mut [u8], at: usize, first: u32) -> usize
-    requires { ⌜ (first < 12) × (at + 9 ≤ length (now out)) ⌝ }
-    ensures { λ r. ⌜ Writes (now (out .entry)) at (over flats first) r (now (out .exit)) ⌝ }
+fn put_over(out: &mut [u8], at: usize, first: u64) -> usize
+    requires { ⌜ (long first ≤ 2) × (at + 9 ≤ length (now out)) ⌝ }
+    ensures { λ r. ⌜ Writes (now (out .entry)) at (over (textOf first)) r (now (out .exit)) ⌝ }
 {
     let slashed = put(out, at, SLASH);
-    put(out, slashed, class_name(first))
+    put(out, slashed, first)
 }
 
 // The candidate of the first class.
-fn put_first(out: &mut [u8], class: u32, set: u32) -> usize
-    requires { ⌜ (class < 12) × (set < 4096) × (has set class ≡ true) × (80 ≤ length (now out)) ⌝ }
-    ensures { λ r. ⌜ Writes (now (out .entry)) 0 (line flats set [] class) r (now (out .exit)) ⌝ }
+fn put_first(out: &mut [u8], name: u64, class: u32, set: u32) -> usize
+    requires { ⌜ (long name ≤ 2) × (class < 12) × (set < 4096) × (has set class ≡ true) × (80 ≤ length (now out)) ⌝ }
+    ensures { λ r. ⌜ Writes (now (out .entry)) 0 (line (textOf name) set [] class) r (now (out .exit)) ⌝ }
 {
-    let end = put_chord(out, class, set);
+    let end = put_chord(out, name, class, set);
     put(out, end, LINE_FEED)
 }
 
-// The candidate of another class, over the first.
-fn put_next(out: &mut [u8], class: u32, first: u32, set: u32) -> usize
-    requires { ⌜ (class < 12) × (set < 4096) × (has set class ≡ true) × (80 ≤ length (now out)) × (first < 12) ⌝ }
-    ensures { λ r. ⌜ Writes (now (out .entry)) 0 (line flats set (over flats first) class) r (now (out .exit)) ⌝ }
+// The candidate of another class, over the first's name.
+fn put_next(out: &mut [u8], name: u64, class: u32, first: u64, set: u32) -> usize
+    requires { ⌜ (long name ≤ 2) × (class < 12) × (set < 4096) × (has set class ≡ true) × (80 ≤ length (now out)) × (long first ≤ 2) ⌝ }
+    ensures { λ r. ⌜ Writes (now (out .entry)) 0 (line (textOf name) set (over (textOf first)) class) r (now (out .exit)) ⌝ }
 {
-    let end = put_chord(out, class, set);
+    let end = put_chord(out, name, class, set);
     let over = put_over(out, end, first);
     put(out, over, LINE_FEED)
 }
@@ -80,12 +82,14 @@ fn put_lines(out: &mut [u8], order: &[u8], set: u32) -> usize
     if order.len() == 0 {
         return 0;
     }
-    let first = wide(order[0]);
-    let mut used = put_first(out, first, set);
+    let root = wide(order[0]);
+    let first = class_name(root);
+    let mut used = put_first(out, first, root, set);
     let mut i = 1;
     while i < order.len() {
         let class = wide(order[i]);
-        used += put_next(&mut out[used..], class, first, set);
+        let name = class_name(class);
+        used += put_next(&mut out[used..], name, class, first, set);
         i += 1;
     }
     used

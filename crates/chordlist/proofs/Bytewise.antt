@@ -12,6 +12,7 @@ use native.Mathlib.Omega.{arith}
 use lib.ListN.{length, take, drop, getD, set, length-append, take-append-drop}
 use lib.Seq.{take-all, take-append-le, length-take-le, take-suc, set-split, append-snoc}
 use borrow.Author.Tests.{eq-eqb, ne-eqb}
+use Rattle.notes.specs.declared.note.Note.{Note}
 use Rattle.answer.specs.Written.{Writes}
 use Rattle.chordlist.specs.Replies.{lineText, Printed}
 use Rattle.chordlist.specs.Input.{lineFeed}
@@ -19,7 +20,7 @@ use Rattle.chordlist.specs.Pieces.{mostKept, heldWith, saidWith, heldAft
 use Rattle.chordlist.proofs.Streams.{line-ends, line-goes-on, held-append}
 use Rattle.chordlist.proofs.Printing.{fronted, no-text, by-count}
 
-module _ (names : List (List ℕ)) (held : List ℕ) (byte : ℕ) where
+module _ (names : List Note) (held : List ℕ) (byte : ℕ) where
   pub answered : byte ≡ lineFeed → saidWith names held byte ≡ lineText names held
   answered e = line-ends names held byte (eq-eqb _ _ e) .1
 

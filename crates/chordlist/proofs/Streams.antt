@@ -14,6 +14,7 @@ use lib.Dec.{eqb, leb}
 use lib.ListN.{length, take, length-take}
 use lib.Seq.{take-all, take-append-le, length-take-le}
 use borrow.Author.Tests.{lt-leb, leb-true, leb-false}
+use Rattle.notes.specs.declared.note.Note.{Note}
 use Rattle.chordlist.specs.Parts.{withByte, parts}
 use Rattle.chordlist.specs.Replies.{lineText}
 use Rattle.chordlist.specs.Input.{lineFeed, linesOf, inputText}
@@ -34,14 +35,14 @@ is-cut line = go (leb (length line) mostKept) refl
 cut-long : (line : List ℕ) → mostKept < length line → length (cut line) ≡ mostKept
 cut-long line h = length-take-le mostKept line (omega arith)
 
-pub kept-answers : (names : List (List ℕ)) (line : List ℕ) → lineText names (cut line) ≡ lineText names line
+pub kept-answers : (names : List Note) (line : List ℕ) → lineText names (cut line) ≡ lineText names line
 unfolding lineText
 kept-answers names line =
     ⊎-elim (λ short. ap (lineText names) (take-all mostKept line short))
     (λ long. rw (lt-leb (length (cut line)) 1024 (omega (arith, cut-long line long)), lt-leb (length line) 1024 (omega arith)))
     (is-cut line)
 
-module _ (names : List (List ℕ)) (held : List ℕ) (byte : ℕ) where
+module _ (names : List Note) (held : List ℕ) (byte : ℕ) where
   pub line-ends : eqb byte lineFeed ≡ true → (heldWith held byte ≡ []) × (saidWith names held byte ≡ lineText names held)
   unfolding heldWith saidWith
   line-ends e = (rw e, rw e)
@@ -71,7 +72,7 @@ held-short held (byte ∷ more) h = held-short (heldWith held byte) more (go (eq
     go true e = rw (line-ends [] held byte e .0) (omega arith)
     go false e = rw (line-goes-on [] held byte e .0) (omega (arith, length-take mostKept (held ++ (byte ∷ []))))
 
-module _ (names : List (List ℕ)) where
+module _ (names : List Note) where
   said-append : (held p q : List ℕ) → saidBy names held (p ++ q) ≡ saidBy names held p ++ saidBy names (heldAfter held p) q
   unfolding heldAfter saidBy
   said-append held [] q = refl

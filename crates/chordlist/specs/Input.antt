@@ -1,6 +1,7 @@
 -- What `chordlist` prints for its whole input: paper 01, the program's paragraph.
 use mathlib.Core.List.{List, [], flatMap}
 use Prim.Native.Nat.{ℕ}
+use Rattle.notes.specs.declared.note.Note.{Note}
 use Rattle.chordlist.specs.Parts.{parts}
 use Rattle.chordlist.specs.Replies.{lineText}
 
@@ -13,5 +14,5 @@ unfoldable pub linesOf : List ℕ → List (List ℕ)
 linesOf input = parts [] lineFeed input
 
 -- what is printed for a whole input: what is printed for its lines, one after the other
-unfoldable pub inputText : List (List ℕ) → List ℕ → List ℕ
+unfoldable pub inputText : List Note → List ℕ → List ℕ
 inputText names input = flatMap (lineText names) (linesOf input)

@@ -5,6 +5,7 @@ use mathlib.Core.List.{List, [], _∷_, _++_}
 use Prim.Native.Nat.{ℕ}
 use lib.Dec.{eqb}
 use lib.ListN.{take}
+use Rattle.notes.specs.declared.note.Note.{Note}
 use Rattle.chordlist.specs.Replies.{lineText}
 use Rattle.chordlist.specs.Input.{lineFeed}
 
@@ -17,7 +18,7 @@ unfoldable pub heldWith : List ℕ → ℕ → List ℕ
 heldWith held byte = cond (eqb byte lineFeed) [] (take mostKept (held ++ (byte ∷ [])))
 
 -- what a byte has printed: LF, the answer of the line that it ends
-unfoldable pub saidWith : List (List ℕ) → List ℕ → ℕ → List ℕ
+unfoldable pub saidWith : List Note → List ℕ → ℕ → List ℕ
 saidWith names held byte = cond (eqb byte lineFeed) (lineText names held) []
 
 -- what is kept after a piece
@@ -26,16 +27,16 @@ heldAfter held [] = held
 heldAfter held (byte ∷ more) = heldAfter (heldWith held byte) more
 
 -- what a piece has printed
-unfoldable pub saidBy : List (List ℕ) → List ℕ → List ℕ → List ℕ
+unfoldable pub saidBy : List Note → List ℕ → List ℕ → List ℕ
 saidBy names held [] = []
 saidBy names held (byte ∷ more) = saidWith names held byte ++ saidBy names (heldWith held byte) more
 
 -- what the end has printed: "A final line without LF counts if not empty"
-unfoldable pub saidAtEnd : List (List ℕ) → List ℕ → List ℕ
+unfoldable pub saidAtEnd : List Note → List ℕ → List ℕ
 saidAtEnd names [] = []
 saidAtEnd names (byte ∷ more) = lineText names (byte ∷ more)
 
 -- what pieces have printed that come one after the other, and then the end
-unfoldable pub saidByAll : List (List ℕ) → List ℕ → List (List ℕ) → List ℕ
+unfoldable pub saidByAll : List Note → List ℕ → List (List ℕ) → List ℕ
 saidByAll names held [] = saidAtEnd names held
 saidByAll names held (piece ∷ more) = saidBy names held piece ++ saidByAll names (heldAfter held piece) more

@@ -4,6 +4,7 @@ use mathlib.Core.List.{List, [], _∷_, _++_}
 use Prim.Native.Nat.{ℕ}
 use lib.Dec.{leb}
 use lib.ListN.{length}
+use Rattle.notes.specs.declared.note.Note.{Note}
 use Rattle.answer.specs.Words.{bytes}
 use Rattle.answer.specs.Replies.{text, Answered}
 use Rattle.answer.specs.declared.output.Output.the-variants.{Written}
@@ -11,7 +12,7 @@ use Rattle.candidates.specs.Candidates.{candidatesOf}
 use Rattle.chordlist.specs.Codes.{Line, bad, holds, codesIn}
 
 -- "It prints the candidates, then a line `.`"
-unfoldable pub codesText : List (List ℕ) → List ℕ → List ℕ
+unfoldable pub codesText : List Note → List ℕ → List ℕ
 codesText names codes = candidatesOf names codes ++ bytes "." ++ (10 ∷ [])
 
 -- "`?` alone"
@@ -19,12 +20,12 @@ unfoldable pub badText : List ℕ
 badText = bytes "?" ++ (10 ∷ [])
 
 -- a line that can be read, and "A bad line"
-unfoldable pub heldText : List (List ℕ) → Line → List ℕ
+unfoldable pub heldText : List Note → Line → List ℕ
 heldText names bad = badText
 heldText names (holds codes) = codesText names codes
 
 -- "lines of at most 1,024 bytes before LF"; "A bad line, or a longer one, prints `?` alone"
-unfoldable pub lineText : List (List ℕ) → List ℕ → List ℕ
+unfoldable pub lineText : List Note → List ℕ → List ℕ
 lineText names line = cond (leb (length line) 1024) (heldText names (codesIn line)) badText
 
 -- room for what is printed for any line: candidates of at most 840 bytes, `.` and LF

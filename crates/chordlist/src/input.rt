@@ -3,7 +3,7 @@ use crate::reply::reply;
 ghost use mathlib.Core.Path.{_≡_};
 ghost use Prim.Native.Nat.{_≤_};
 ghost use lib.ListN.{length, take};
-ghost use Rattle.inference.specs.Names.{flats};
+ghost use Rattle.names.specs.Names.{flats};
 ghost use Rattle.chordlist.specs.Replies.{Printed, mostPrinted};
 ghost use Rattle.chordlist.specs.Pieces.{mostKept, heldWith, saidWith, saidAtEnd};
 

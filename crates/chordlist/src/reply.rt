@@ -5,7 +5,7 @@ use answer::output::Output;
 use candidates::lines::candidates;
 ghost use Prim.Native.Nat.{_≤_};
 ghost use lib.ListN.{length};
-ghost use Rattle.inference.specs.Names.{flats};
+ghost use Rattle.names.specs.Names.{flats};
 ghost use Rattle.chordlist.specs.Replies.{codesText, lineText, mostPrinted, Printed};
 
 // Candidates have at most 840 bytes, and then comes the line `.`.

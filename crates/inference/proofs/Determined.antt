@@ -3,13 +3,9 @@
 --                    up to its answer (Puts.antt, `one-put`)
 use denote.Ref.{now}
 use Rattle.answer.proofs.Determined.{Decides, DecidesWith, determined, both}
-use Rattle.inference.proofs.tables.class_name.Reads as class-name
 use Rattle.inference.proofs.Puts.{one-put}
 use Rattle.inference.proofs.normalize.suffix.Reads as suffix
 use Rattle.inference.proofs.normalize.put_suffix.Reads as put-suffix
-
-pub class-name-decides : Decides class-name.Post
-class-name-decides κs a r r′ s s′ = determined
 
 pub suffix-decides : DecidesWith suffix.Post (λ κs s. now (s .1 .0))
 suffix-decides κs a r r′ s s′ = both

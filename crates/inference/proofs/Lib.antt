@@ -1,4 +1,3 @@
-pub mod Named
 pub mod First
 pub mod Texts
 pub mod Puts

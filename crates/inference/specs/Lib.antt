@@ -1,4 +1,3 @@
-pub mod Names
 pub mod Prefixes
 pub mod Puts
 pub mod Described

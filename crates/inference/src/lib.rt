@@ -1,4 +1,3 @@
 // From the classes that sound to how a chord is written: the Rust's `inference` module.
 pub mod normalize;
-pub mod tables;
 mod wording;

@@ -1,14 +1,14 @@
--- The text of a note is one that a word can hold.
---     name-short     a test of the seven letters at the thirteen heights
+-- The text of a note, by a test of the seven letters at the thirteen heights.
 use mathlib.Core.Path.{_≡_, subst}
-use mathlib.Core.Bool.{Bool, true}
-use mathlib.Core.List.{_∷_}
+use mathlib.Core.Bool.{Bool, true, _&&_}
+use mathlib.Core.List.{List, _∷_}
 use Prim.Native.Nat.{ℕ}
-use lib.Dec.{T}
+use lib.Dec.{T, eqb, eqb→eq}
 use lib.IntN.{ℤ}
 use Rattle.answer.specs.Words.{bytes}
+use Rattle.answer.specs.Lines.{lineFeeds}
 use Rattle.answer.proofs.Digits.{isShort, areBytes}
-use Rattle.answer.proofs.Tests.{all, at}
+use Rattle.answer.proofs.Tests.{left, right, all, at}
 use Rattle.notes.specs.Notes.{countOf, isNote}
 use Rattle.notes.specs.NoteText.{letterName, signs, noteName}
 use Rattle.notes.specs.Heights.{heightOf}
@@ -16,15 +16,29 @@ use Rattle.notes.specs.declared.note.Note.{Note}
 use Rattle.notes.proofs.Counts.{lowered, lowered-height}
 use Rattle.notes.proofs.Moves.{letter-less, is-count, height-is}
 
-short : ℕ → ℕ → Bool
-short l h = isShort (letterName l ∷ signs (lowered h))
+isLineWord : List ℕ → Bool
+isLineWord t = isShort t && eqb (lineFeeds t) 0
 
-all-short : T (all (λ l. all (short l) 13) 7)
-unfolding all short isShort areBytes letterName signs bytes
-all-short = tt
+fine : ℕ → ℕ → Bool
+fine l h = isLineWord (letterName l ∷ signs (lowered h))
 
-pub name-short : (n : Note) → isNote n ≡ true → T (isShort (noteName signs n))
-unfolding short noteName
-name-short n note =
-    subst (λ (z : ℤ). T (isShort (letterName (n .letter) ∷ signs z))) (lowered-height (countOf (n .accidental)) (is-count n note))
-    (at (short (n .letter)) 13 (at (λ l. all (short l) 13) 7 all-short (n .letter) (letter-less n note)) (heightOf (countOf (n .accidental))) (height-is n note))
+all-fine : T (all (λ l. all (fine l) 13) 7)
+unfolding all fine isLineWord isShort areBytes lineFeeds letterName signs bytes
+all-fine = tt
+
+module _ (n : Note) (note : isNote n ≡ true) where
+  is-fine : T (isLineWord (noteName signs n))
+  unfolding fine noteName
+  is-fine =
+      subst (λ (z : ℤ). T (isLineWord (letterName (n .letter) ∷ signs z))) (lowered-height (countOf (n .accidental)) (is-count n note))
+      (at (fine (n .letter)) 13 (at (λ l. all (fine l) 13) 7 all-fine (n .letter) (letter-less n note)) (heightOf (countOf (n .accidental))) (height-is n note))
+
+  -- a word can hold it
+  pub name-short : T (isShort (noteName signs n))
+  unfolding isLineWord
+  name-short = left (isShort (noteName signs n)) _ is-fine
+
+  -- and it ends no line
+  pub name-line : lineFeeds (noteName signs n) ≡ 0
+  unfolding isLineWord
+  name-line = eqb→eq (lineFeeds (noteName signs n)) 0 (right (isShort (noteName signs n)) _ is-fine)

@@ -1,7 +1,4 @@
 -- The intervals of a rooted set: a test at each of the 2,048.
---     some, few     there is one, and they are at most twelve
---     small         the number that has their bits is one of 23 bits
---     back          and gives them back
 use mathlib.Core.Path.{_≡_, ap}
 use mathlib.Core.Bool.{Bool, _&&_}
 use mathlib.Core.List.{List, _++_}
@@ -22,11 +19,11 @@ found s = setOf (atOnce s ++ third s ++ fourth s ++ sixth s ++ fifth s)
 abbrev sized : List Interval → Bool
 sized i = leb 1 (length i) && leb (length i) 12
 
-abbrev told : ℕ → ℕ → Bool
-told n f = ltb n (2 ^ 23) && eqb n f
+abbrev kept : ℕ → ℕ → Bool
+kept n f = ltb n (2 ^ 23) && eqb n f
 
 fine : ℕ → Bool
-fine s = let i = intervalsOf s in sized i && told (setOf i) (found s)
+fine s = let i = intervalsOf s in sized i && kept (setOf i) (found s)
 
 all-fine : (s : ℕ) → s < 4096 → s % 2 ≡ 1 → T (fine s)
 unfolding all fine has intervals among keep only atOnce third fourth sixth fifth setOf intervalsIn intervalsOf
@@ -37,19 +34,21 @@ module _ (s : ℕ) (h : s < 4096) (odd : s % 2 ≡ 1) where
   unfolding fine
   is-sized = left (sized (intervalsOf s)) _ (all-fine s h odd)
 
-  is-told : T (told (setOf (intervalsOf s)) (found s))
+  is-kept : T (kept (setOf (intervalsOf s)) (found s))
   unfolding fine
-  is-told = right (sized (intervalsOf s)) _ (all-fine s h odd)
+  is-kept = right (sized (intervalsOf s)) _ (all-fine s h odd)
 
-  pub some : 1 ≤ length (intervalsOf s)
-  some = leb→le 1 (length (intervalsOf s)) (left (leb 1 (length (intervalsOf s))) _ is-sized)
+  pub at-least-one : 1 ≤ length (intervalsOf s)
+  at-least-one = leb→le 1 (length (intervalsOf s)) (left (leb 1 (length (intervalsOf s))) _ is-sized)
 
-  pub few : length (intervalsOf s) ≤ 12
-  few = leb→le (length (intervalsOf s)) 12 (right (leb 1 (length (intervalsOf s))) _ is-sized)
+  pub at-most-twelve : length (intervalsOf s) ≤ 12
+  at-most-twelve = leb→le (length (intervalsOf s)) 12 (right (leb 1 (length (intervalsOf s))) _ is-sized)
 
-  pub small : setOf (intervalsOf s) < 2 ^ 23
-  small = ltb→lt (setOf (intervalsOf s)) (2 ^ 23) (left (ltb (setOf (intervalsOf s)) (2 ^ 23)) _ is-told)
+  -- the number that has their bits is one of 23 bits
+  pub set-less : setOf (intervalsOf s) < 2 ^ 23
+  set-less = ltb→lt (setOf (intervalsOf s)) (2 ^ 23) (left (ltb (setOf (intervalsOf s)) (2 ^ 23)) _ is-kept)
 
-  pub back : intervalsIn (setOf (intervalsOf s)) ≡ intervalsOf s
+  -- and gives them back
+  pub set-reads : intervalsIn (setOf (intervalsOf s)) ≡ intervalsOf s
   unfolding intervalsOf
-  back = ap intervalsIn (eqb→eq (setOf (intervalsOf s)) (found s) (right (ltb (setOf (intervalsOf s)) (2 ^ 23)) _ is-told))
+  set-reads = ap intervalsIn (eqb→eq (setOf (intervalsOf s)) (found s) (right (ltb (setOf (intervalsOf s)) (2 ^ 23)) _ is-kept))

@@ -1,27 +1,21 @@
 -- What a call for the tones has to give, by the tests on its numbers, for any table of degrees.
---     not-rooted    refusal 1
---     no-class      refusal 2
---     told          the tones
-use mathlib.Core.Path.{_≡_}
-use mathlib.Core.Bool.{true, false}
-use Prim.Native.Nat.{ℕ, _≤_, _<_}
-use borrow.Author.Tests.{lt-leb, le-leb}
-use Rattle.answer.specs.Replies.{refuse, text}
-use Rattle.answer.specs.declared.refusal.Refusal.the-variants.{NotASet, BadClass}
+use mathlib.Core.Path.{_≡_, ap}
+use mathlib.Core.Bool.{Bool, true, false, cond}
+use Prim.Native.Nat.{ℕ}
+use Rattle.answer.specs.Replies.{refuse}
+use Rattle.answer.specs.declared.refusal.Refusal.the-variants.{NotASet}
 use Rattle.intervals.specs.Sets.{isRooted}
 use Rattle.intervals.specs.declared.interval.Interval.{Interval}
 use Rattle.intervals.specs.declared.interval.IntDegree.{IntDegree}
-use Rattle.spelling.specs.Tones.{tonesOf, tonesReply}
+use Rattle.notes.specs.declared.note.NoteAnswer.{NoteAnswer}
+use Rattle.names.specs.Names.{flats, noteIn}
+use Rattle.spelling.specs.Tones.{tonesOn, tonesReply}
 
 module _ (degrees : Interval → IntDegree) (root s : ℕ) where
   pub not-rooted : isRooted s ≡ false → tonesReply degrees root s ≡ refuse NotASet
   unfolding tonesReply
-  not-rooted e = rw e
+  not-rooted e = ap (λ (b : Bool). cond b (tonesOn degrees (noteIn flats root) s) (refuse NotASet)) e
 
-  pub no-class : isRooted s ≡ true → 11 < root → tonesReply degrees root s ≡ refuse BadClass
+  pub by-the-note : isRooted s ≡ true → (n : NoteAnswer) → noteIn flats root ≡ n → tonesReply degrees root s ≡ tonesOn degrees n s
   unfolding tonesReply
-  no-class e past = rw (e, lt-leb _ _ past)
-
-  pub told : isRooted s ≡ true → root ≤ 11 → tonesReply degrees root s ≡ text (tonesOf degrees root s)
-  unfolding tonesReply
-  told e class = rw (e, le-leb _ _ class)
+  by-the-note e n is = rw (e, is)

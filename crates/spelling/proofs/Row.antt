@@ -1,11 +1,4 @@
--- The loop of `put_tones`: where it stands, and what a turn does; and what is given of the row that it writes.
---     Row          what is written so far, with what is left to write, is the whole
---     begin        where the loop begins
---     end          where nothing is left, the whole is written
---     turn         a turn writes the tone of the first interval that is left, behind a space
---     row-some     a row of some intervals has a byte
---     row-long     and at most eight for each interval
---     given        the row without its first byte is the names joined
+-- The loop of `put_tones`: where it stands, what a turn does, and what is given of the row that it writes, for any table of degrees.
 use mathlib.Core.Path.{_≡_, refl, sym, ap, subst, _∙_}
 use mathlib.Core.List.{List, [], _∷_, _++_, append-nil, append-assoc}
 use Prim.Native.Nat.{ℕ, zero, suc, _+_, _*_, _%_, _-_, _^_, _≤_, _<_}
@@ -19,45 +12,48 @@ use Rattle.answer.specs.Written.{Writes}
 use Rattle.answer.proofs.Digits.{isShort, areBytes}
 use Rattle.answer.proofs.Tests.{left}
 use Rattle.answer.proofs.Writing.{nothing, also, Puts, no-puts, then-put}
-use Rattle.intervals.specs.Intervals.{numbered, degreeOf}
+use Rattle.intervals.specs.Intervals.{numbered}
 use Rattle.notes.specs.declared.note.Note.{Note}
 use Rattle.intervals.specs.declared.interval.Interval.{Interval}
+use Rattle.intervals.specs.declared.interval.IntDegree.{IntDegree}
 use Rattle.intervals.specs.declared.interval.Numbered.{Numbered}
 use Rattle.intervals.specs.declared.interval.Numbered.the-variants.{Is, Nothing}
 use Rattle.rules.specs.Classes.{intervalsIn}
 use Rattle.inference.proofs.First.{First, lowest-of, bit, none-in}
-use Rattle.spelling.specs.Tones.{numberedName, names, spaced, joined}
+use Rattle.spelling.specs.Tones.{numberedName, toneNames, spaced, joined}
 use Rattle.spelling.proofs.Spelled.{tone-short}
 
-abbrev rowOf : Note → ℕ → List ℕ
-rowOf root set = spaced (names degreeOf root (intervalsIn set))
+abbrev rowOf : (Interval → IntDegree) → Note → ℕ → List ℕ
+rowOf degrees root set = spaced (toneNames degrees root (intervalsIn set))
 
-pub record Row (root : Note) (l₀ : List ℕ) (set : ℕ) (l : List ℕ) (at left : ℕ) : Type 0 where
+-- what is written so far, with what is left to write, is the whole
+pub record Row (degrees : Interval → IntDegree) (root : Note) (l₀ : List ℕ) (set : ℕ) (l : List ℕ) (at left : ℕ) : Type 0 where
   pub done : List ℕ
   pub wrote : Writes l₀ 0 done at l
-  pub whole : done ++ rowOf root left ≡ rowOf root set
+  pub adds-up : done ++ rowOf degrees root left ≡ rowOf degrees root set
   pub small : left < 2 ^ 23
   pub room : at + 8 * length (intervalsIn left) + 8 ≤ length l
   pub same : length l ≡ length l₀
 
-pub begin : (root : Note) (l : List ℕ) (set : ℕ) → set < 2 ^ 23 → 8 * length (intervalsIn set) + 8 ≤ length l → Row root l set l 0 set
-begin root l set h room = record { done = []; wrote = nothing l 0; whole = refl; small = h; room = omega (arith, room); same = refl }
+pub begin : (degrees : Interval → IntDegree) (root : Note) (l : List ℕ) (set : ℕ) → set < 2 ^ 23 → 8 * length (intervalsIn set) + 8 ≤ length l
+    → Row degrees root l set l 0 set
+begin degrees root l set h room = record { done = []; wrote = nothing l 0; adds-up = refl; small = h; room = omega (arith, room); same = refl }
 
-pub numbered-short : (root : Note) (m : Numbered) → T (isShort (numberedName degreeOf root m))
+pub numbered-short : (degrees : Interval → IntDegree) (root : Note) (m : Numbered) → T (isShort (numberedName degrees root m))
 unfolding isShort areBytes
-numbered-short root (Is i) = tone-short degreeOf root i
-numbered-short root Nothing = tt
+numbered-short degrees root (Is i) = tone-short degrees root i
+numbered-short degrees root Nothing = tt
 
 seven : (t : List ℕ) → T (isShort t) → length t ≤ 7
 unfolding isShort
 seven t short = leb→le (length t) 7 (left (leb (length t) 7) (areBytes t) short)
 
-module _ (root : Note) (l₀ : List ℕ) (set : ℕ) (l : List ℕ) (at left : ℕ) (t : Row root l₀ set l at left) where
-  pub end : left ≡ 0 → Writes l₀ 0 (rowOf root set) at l
+module _ (degrees : Interval → IntDegree) (root : Note) (l₀ : List ℕ) (set : ℕ) (l : List ℕ) (at left : ℕ) (t : Row degrees root l₀ set l at left) where
+  pub end : left ≡ 0 → Writes l₀ 0 (rowOf degrees root set) at l
   unfolding spaced
   end e =
-      let none : rowOf root left ≡ [] = rw (e, none-in) in
-      let all : t .done ≡ rowOf root set = sym (append-nil (t .done)) ∙ ap (λ (x : List ℕ). t .done ++ x) (sym none) ∙ t .whole in
+      let none : rowOf degrees root left ≡ [] = rw (e, none-in) in
+      let all : t .done ≡ rowOf degrees root set = sym (append-nil (t .done)) ∙ ap (λ (x : List ℕ). t .done ++ x) (sym none) ∙ t .adds-up in
       subst (λ (x : List ℕ). Writes l₀ 0 x at l) all (t .wrote)
 
   module _ (some : left ≡ 0 → ⊥) where
@@ -65,10 +61,10 @@ module _ (root : Note) (l₀ : List ℕ) (set : ℕ) (l : List ℕ) (at left : �
     f = lowest-of left some (t .small)
 
     abbrev name : List ℕ
-    name = numberedName degreeOf root (numbered (trailingZeros 32 left))
+    name = numberedName degrees root (numbered (trailingZeros 32 left))
 
     -- what is left to write begins with the first interval's tone
-    split : rowOf root left ≡ (bytes " " ++ name) ++ rowOf root (left - 2 ^ trailingZeros 32 left)
+    split : rowOf degrees root left ≡ (bytes " " ++ name) ++ rowOf degrees root (left - 2 ^ trailingZeros 32 left)
     unfolding spaced
     split = rw (f .rest, f .there) (simp append-assoc)
 
@@ -80,34 +76,36 @@ module _ (root : Note) (l₀ : List ℕ) (set : ℕ) (l : List ℕ) (at left : �
     puts r₁ l₁ told₁ kept₁ word r₂ l₂ e told₂ kept₂ =
         let long = ap length (f .rest) in
         let space = then-put (no-puts l at) (bytes " ") tt 0x0100000000000020 r₁ l₁ refl (omega (arith, t .room)) told₁ kept₁ in
-        then-put space name (numbered-short root (numbered (trailingZeros 32 left))) word r₂ l₂ e (omega (arith, t .room, long)) told₂ kept₂
+        then-put space name (numbered-short degrees root (numbered (trailingZeros 32 left))) word r₂ l₂ e (omega (arith, t .room, long)) told₂ kept₂
 
-    pub turn : (r : ℕ) (l′ : List ℕ) → Puts l at (bytes " " ++ name) r l′ → Row root l₀ set l′ r (left - (1 * 2 ^ trailingZeros 32 left) % 2 ^ 32)
+    pub turn : (r : ℕ) (l′ : List ℕ) → Puts l at (bytes " " ++ name) r l′ → Row degrees root l₀ set l′ r (left - (1 * 2 ^ trailingZeros 32 left) % 2 ^ 32)
     unfolding bytes
     turn r l′ p =
         let long = ap length (f .rest) in
-        let short = seven name (numbered-short root (numbered (trailingZeros 32 left))) in
+        let short = seven name (numbered-short degrees root (numbered (trailingZeros 32 left))) in
         rw (bit left some (t .small))
         record {
           done = t .done ++ (bytes " " ++ name);
           wrote = also (t .wrote) (p .wrote);
-          whole = append-assoc (t .done) (bytes " " ++ name) _ ∙ ap (λ (x : List ℕ). t .done ++ x) (sym split) ∙ t .whole;
+          adds-up = append-assoc (t .done) (bytes " " ++ name) _ ∙ ap (λ (x : List ℕ). t .done ++ x) (sym split) ∙ t .adds-up;
           small = omega (arith, t .small);
           room = omega (arith, t .room, long, short, p .wrote .place, p .same);
           same = p .same ∙ t .same;
         }
 
-pub row-some : (root : Note) (found : List Interval) → 1 ≤ length found → 1 ≤ length (spaced (names degreeOf root found))
+-- a row of some intervals has a byte
+pub row-some : (degrees : Interval → IntDegree) (root : Note) (found : List Interval) → 1 ≤ length found → 1 ≤ length (spaced (toneNames degrees root found))
 unfolding spaced bytes
-row-some root [] h = h
-row-some root (i ∷ more) h = omega arith
+row-some degrees root [] h = h
+row-some degrees root (i ∷ more) h = omega arith
 
-pub row-long : (root : Note) (found : List Interval) → length (spaced (names degreeOf root found)) ≤ 8 * length found
+-- and at most eight for each interval
+pub row-long : (degrees : Interval → IntDegree) (root : Note) (found : List Interval) → length (spaced (toneNames degrees root found)) ≤ 8 * length found
 unfolding spaced bytes
-row-long root [] = omega arith
-row-long root (i ∷ more) =
-    let short = seven _ (tone-short degreeOf root i) in
-    let rest = row-long root more in
+row-long degrees root [] = omega arith
+row-long degrees root (i ∷ more) =
+    let short = seven _ (tone-short degrees root i) in
+    let rest = row-long degrees root more in
     simp length-append (omega (arith, short, rest))
 
 -- behind the first byte
@@ -116,8 +114,9 @@ tail l zero b u told = absurd (let n = ap length told in let bottom : ⊥ = omeg
 tail [] (suc e) b u told = absurd (let n = ap length told in let bottom : ⊥ = omega arith in bottom)
 tail (x ∷ xs) (suc e) b u told = let n : suc e - 1 ≡ e = omega arith in ap (λ (k : ℕ). take k xs) n ∙ ap (drop 1) told
 
-pub given : (root : Note) (found : List Interval) (l : List ℕ) (e : ℕ) → 1 ≤ length found → take e l ≡ spaced (names degreeOf root found)
-    → take (e - 1) (drop 1 l) ≡ joined (names degreeOf root found)
+-- the row without its first byte is the names joined
+pub given : (degrees : Interval → IntDegree) (root : Note) (found : List Interval) (l : List ℕ) (e : ℕ) → 1 ≤ length found → take e l ≡ spaced (toneNames degrees root found)
+    → take (e - 1) (drop 1 l) ≡ joined (toneNames degrees root found)
 unfolding spaced joined bytes
-given root [] l e some told = absurd (not-suc-le-zero some)
-given root (i ∷ more) l e some told = tail l e 32 _ told
+given degrees root [] l e some told = absurd (not-suc-le-zero some)
+given degrees root (i ∷ more) l e some told = tail l e 32 _ told

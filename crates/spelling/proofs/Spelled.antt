@@ -1,20 +1,15 @@
 -- Laws of tones.
---     root-is       the note of a class is a note
---     root-named    and its text is the class's name by the table of flats
---     tone-is       a tone is a note
---     tone-given    `get_note` refuses no interval
---     tone-short    the name of a tone is a text that a word can hold
-use mathlib.Core.Path.{_≡_, refl}
+use mathlib.Core.Path.{_≡_, refl, _∙_}
 use mathlib.Core.Bool.{Bool, true}
 use Prim.Native.Nat.{ℕ, _-_, _<_}
 use native.Mathlib.Omega.{arith}
 use lib.Dec.{T, leb}
-use Rattle.answer.specs.Words.{bytes, same}
+use Rattle.answer.specs.Words.{packed}
 use Rattle.answer.proofs.Digits.{isShort}
-use Rattle.answer.proofs.Tests.{is-true, all, at, same→eq}
+use Rattle.answer.proofs.Tests.{is-true, all, at}
 use Rattle.intervals.specs.Intervals.{semitonesOf, numericOf}
 use Rattle.notes.specs.Notes.{isNote, isMove, spelled, getNote, getNoteAnswer}
-use Rattle.notes.specs.NoteText.{letterName, signs, noteName}
+use Rattle.notes.specs.NoteText.{signs, noteName}
 use Rattle.notes.specs.declared.note.Note.{Note}
 use Rattle.notes.specs.declared.note.NoteAnswer.the-variants.{Is}
 use Rattle.intervals.specs.declared.interval.Interval.{Interval}
@@ -22,23 +17,10 @@ use Rattle.intervals.specs.declared.interval.Interval.the-variants.{Unison, Min
 use Rattle.intervals.specs.declared.interval.IntDegree.{IntDegree}
 use Rattle.intervals.specs.declared.interval.IntDegree.the-variants.{Root, Second, Third, Fourth, Fifth, Sixth, Seventh}
 use Rattle.intervals.specs.declared.interval.IntDegree.the-variants as Degree
+use Rattle.intervals.specs.declared.interval.Numbered.{Numbered}
+use Rattle.intervals.specs.declared.interval.Numbered.the-variants as Number
 use Rattle.notes.proofs.Names.{name-short}
-use Rattle.inference.specs.Names.{nameOf, flats}
-use Rattle.spelling.specs.Tones.{rootNotes, rootNote, toneOf, toneName}
-
-rooted : ℕ → Bool
-rooted c = isNote (rootNote c)
-
-pub root-is : (c : ℕ) → c < 12 → isNote (rootNote c) ≡ true
-unfolding all rooted rootNotes
-root-is c h = is-true _ (at rooted 12 tt c h)
-
-named : ℕ → Bool
-named c = same (noteName signs (rootNote c)) (nameOf flats c)
-
-pub root-named : (c : ℕ) → c < 12 → noteName signs (rootNote c) ≡ nameOf flats c
-unfolding all named rootNotes same noteName letterName signs flats bytes
-root-named c h = same→eq _ _ (at named 12 tt c h)
+use Rattle.spelling.specs.Tones.{toneOf, toneName, numberedName}
 
 -- on each of the seven letters, at each of the twelve pitches
 sound : ℕ → ℕ → Bool
@@ -48,9 +30,15 @@ spelled-is : (l p : ℕ) → l < 7 → p < 12 → isNote (spelled l p) ≡ true
 unfolding all sound spelled
 spelled-is l p hl hp = is-true _ (at (sound l) 12 (at (λ l. all (sound l) 12) 7 tt l hl) p hp)
 
-pub tone-is : (degrees : Interval → IntDegree) (n : Note) (i : Interval) → isNote (toneOf degrees n i) ≡ true
-unfolding toneOf getNote
-tone-is degrees n i = spelled-is _ _ (omega arith) (omega arith)
+-- what a move reaches is a note
+pub move-is : (n : Note) (semitones degree : ℕ) → isNote (getNote n semitones degree) ≡ true
+unfolding getNote
+move-is n semitones degree = spelled-is _ _ (omega arith) (omega arith)
+
+-- a move from a note is not refused
+pub move-given : (n : Note) (semitones degree : ℕ) → isNote n ≡ true → isMove semitones degree ≡ true → getNoteAnswer n semitones degree ≡ Is (getNote n semitones degree)
+unfolding getNoteAnswer
+move-given n semitones degree note move = rw (note, move)
 
 semitones-few : (i : Interval) → leb (semitonesOf i) 24 ≡ true
 semitones-few Unison = refl
@@ -90,11 +78,18 @@ moves s few Degree.Ninth = rw few
 moves s few Degree.Eleventh = rw few
 moves s few Degree.Thirteenth = rw few
 
-pub tone-given : (degrees : Interval → IntDegree) (n : Note) (i : Interval) → isNote n ≡ true
-    → getNoteAnswer n (semitonesOf i) (numericOf (degrees i)) ≡ Is (toneOf degrees n i)
-unfolding getNoteAnswer toneOf
-tone-given degrees n i note = rw (note, moves (semitonesOf i) (semitones-few i) (degrees i))
+-- by any table of degrees an interval is a move
+pub interval-moves : (degrees : Interval → IntDegree) (i : Interval) → isMove (semitonesOf i) (numericOf (degrees i)) ≡ true
+interval-moves degrees i = moves (semitonesOf i) (semitones-few i) (degrees i)
 
+-- and the name of its tone is one that a word can hold
 pub tone-short : (degrees : Interval → IntDegree) (n : Note) (i : Interval) → T (isShort (toneName degrees n i))
-unfolding toneName
-tone-short degrees n i = name-short (toneOf degrees n i) (tone-is degrees n i)
+unfolding toneName toneOf
+tone-short degrees n i = name-short (toneOf degrees n i) (move-is n (semitonesOf i) (numericOf (degrees i)))
+
+-- the word of the move at an interval's semitones and degree is that of its tone
+pub tone-worded : (degrees : Interval → IntDegree) (root : Note) (m : Numbered) (i : Interval) (d : IntDegree) (semitones degree r : ℕ)
+    → m ≡ Number.Is i → d ≡ degrees i → semitones ≡ semitonesOf i → degree ≡ numericOf d
+    → r ≡ packed (noteName signs (getNote root semitones degree)) → r ≡ packed (numberedName degrees root m)
+unfolding toneName toneOf
+tone-worded degrees root m i d semitones degree r is by st number e = rw is (e ∙ rw (st, number, by))

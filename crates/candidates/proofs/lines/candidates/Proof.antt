@@ -7,23 +7,21 @@ use lib.ListN.{length, take}
 use denote.Ref.{now}
 use borrow.Author.Needs.{needs}
 use Rattle.answer.proofs.Writing.{counted, within}
-use Rattle.inference.specs.Names.{flats}
+use Rattle.names.specs.Names.{flats}
 use Rattle.candidates.specs.Keys.{Finds}
 use Rattle.candidates.specs.Candidates.{Classes, listing, candidatesOf}
-use Rattle.candidates.proofs.Heard.{firsts-heard, firsts-less}
+use Rattle.candidates.proofs.Heard.{firsts-classes}
 use Rattle.candidates.proofs.lines.candidates.Statement.{statement}
 use Rattle.candidates.proofs.lines.candidates.Tie as tie
 
 -- what was found are classes of the set
 found-classes : (keys order : List ℕ) (set count : ℕ) → Finds keys order set count → Classes set (take count order)
-found-classes keys order set count f =
-    subst (λ (l : List ℕ). Classes set l) (sym (f .classes))
-    (λ i h. (firsts-less keys i h, rw (f .isSet) (firsts-heard keys i h)))
+found-classes keys order set count f = rw (f .classes, f .isSet) (firsts-classes keys)
 
 put-lines-requires : tie.Need-put-lines-requires
 put-lines-requires c κs =
     let f = c .before .before .before .find .ensures in
-    (f .small, omega (arith, ap length (f .classes), f .size, f .few), found-classes _ _ _ _ f, search needs)
+    (f .small, omega (arith, ap length (f .classes), f .size, f .atMostTwelve), found-classes _ _ _ _ f, search needs)
 
 -- where the listing stands
 stands : (c : tie.After-put-lines)

@@ -7,6 +7,8 @@ use Rattle.answer.specs.Words.{low, packed}
 use Rattle.answer.proofs.Digits.{isShort, areBytes}
 use Rattle.answer.proofs.Writing.{nothing, also, put-short}
 use Rattle.candidates.specs.Candidates.{line}
+use Rattle.candidates.specs.Texts.{textOf}
+use Rattle.candidates.proofs.Texts.{text-length}
 use Rattle.candidates.proofs.Listed.{chord-length}
 use Rattle.candidates.proofs.lines.put_first.Statement.{statement}
 use Rattle.candidates.proofs.lines.put_first.Tie as tie
@@ -17,7 +19,8 @@ returns c =
     let p = c .before .before in
     let d = p .before .before .before .before in
     let s = d .before .before .before in
-    let long = chord-length (s .args .set) (s .args .class) (s .pre .0) (s .pre .2) in
+    let two = text-length (s .args .name) (s .pre .0) in
+    let long = chord-length (textOf (s .args .name)) (omega arith) (s .args .set) (s .args .class) (s .pre .1) (s .pre .3) in
     also (also (d .put-chord .ensures) (nothing _ _)) (put-short (10 ∷ []) tt _ _ _ _ _ refl (omega (arith, long, d .put-chord .ensures .place, d .put-chord .kept .0)) (p .put .ensures))
 
 pub put-first-spec : {M : Type 1} → statement M

@@ -6,7 +6,7 @@ use native.Mathlib.Omega.{arith}
 use lib.ListN.{length}
 use denote.Ref.{now}
 use borrow.Author.Needs.{needs}
-use Rattle.inference.specs.Names.{flats}
+use Rattle.names.specs.Names.{flats}
 use Rattle.chordlist.specs.Replies.{lineText}
 use Rattle.chordlist.specs.Pieces.{saidAtEnd}
 use Rattle.chordlist.proofs.Printing.{no-text}

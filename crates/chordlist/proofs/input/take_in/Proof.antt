@@ -5,7 +5,7 @@ use lib.ListN.{take}
 use lib.Seq.{length-take-le}
 use denote.Ref.{now}
 use borrow.Author.Needs.{needs}
-use Rattle.inference.specs.Names.{flats}
+use Rattle.names.specs.Names.{flats}
 use Rattle.chordlist.specs.Replies.{Printed}
 use Rattle.chordlist.specs.Pieces.{saidWith}
 use Rattle.chordlist.proofs.Bytewise.{answered, silent, emptied, kept, full}

@@ -10,7 +10,7 @@ use denote.Ref.{now}
 use borrow.Author.Needs.{needs}
 use borrow.Author.Tests.{le-leb, lt-leb}
 use Rattle.answer.specs.Words.{bytes}
-use Rattle.inference.specs.Names.{flats}
+use Rattle.names.specs.Names.{flats}
 use Rattle.chordlist.specs.Codes.{Line, bad, holds, Reads, codesIn}
 use Rattle.chordlist.specs.Replies.{codesText, badText, heldText, lineText}
 use Rattle.chordlist.specs.declared.codes.Codes.{Codes}

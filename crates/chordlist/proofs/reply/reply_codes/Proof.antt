@@ -9,7 +9,8 @@ use borrow.Author.Needs.{needs}
 use Rattle.answer.specs.Words.{bytes}
 use Rattle.answer.specs.declared.output.Output.the-variants.{Written}
 use Rattle.answer.proofs.Rooms.{written}
-use Rattle.inference.specs.Names.{flats}
+use Rattle.names.specs.Names.{flats}
+use Rattle.names.proofs.Named.{flats-brief}
 use Rattle.candidates.specs.Candidates.{candidatesOf}
 use Rattle.candidates.proofs.Listed.{candidates-length}
 use Rattle.chordlist.specs.Replies.{codesText, Printed}
@@ -26,7 +27,7 @@ abbrev room-of : tie.After-candidates → List ℕ
 room-of c = now (c .before .before .before .before .args .out)
 
 has-room : (c : tie.After-candidates) → length (all-of c) + 2 ≤ length (room-of c)
-has-room c = omega (arith, candidates-length (now (c .before .before .before .before .args .codes)), c .before .before .before .before .pre)
+has-room c = omega (arith, candidates-length flats flats-brief (now (c .before .before .before .before .args .codes)), c .before .before .before .before .pre)
 
 -- what the call for them gave
 given : (c : tie.After-candidates) → (c .candidates .result ≡ Written (length (all-of c))) × (c .candidates .last .1 .0 ≡ all-of c ++ drop (length (all-of c)) (room-of c))
@@ -42,7 +43,7 @@ count-is c = let e = c .count .given .1 in let g = given (c .before .before .bef
 stop-place : (c : tie.After-known-told) → (c .before .count .given .0 .0 ≤ 840) × (c .before .count .given .0 .0 + 2 ≤ length (c .before .before .before .before .before .candidates .last .1 .0))
 stop-place c =
     let a = c .before .before .before .before .before in
-    let most = candidates-length (now (a .before .before .before .before .args .codes)) in
+    let most = candidates-length flats flats-brief (now (a .before .before .before .before .args .codes)) in
     (omega (arith, count-is (c .before)), omega (arith, count-is (c .before), has-room a, a .candidates .kept .1 .0))
 
 returns : tie.Need-returns

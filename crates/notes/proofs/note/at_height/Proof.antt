@@ -1,4 +1,4 @@
--- `qualities::note::at_height` meets its contract: six is no accidental, and any other height has its count.
+-- `notes::note::at_height` meets its contract: six is no accidental, and any other height has its count.
 use mathlib.Core.Path.{_≡_, ap, sym, _∙_}
 use Prim.Native.Nat.{ℕ, _<_}
 use lib.IntN.{ℤ, pos, _-ℤ_}

@@ -1,4 +1,4 @@
--- `qualities::note::behind_letter` meets its contract: each arm has the signs of its height.
+-- `notes::note::behind_letter` meets its contract: each arm has the signs of its height.
 use lib.Dec.{lit<}
 use Rattle.answer.specs.Words.{bytes, low, packed}
 use Rattle.answer.proofs.Arms.{nones}

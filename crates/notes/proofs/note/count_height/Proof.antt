@@ -1,4 +1,4 @@
--- `qualities::note::count_height` meets its contract. A signed number is held as bits, and what is read back is the number, since it fits.
+-- `notes::note::count_height` meets its contract. A signed number is held as bits, and what is read back is the number, since it fits.
 use mathlib.Core.Path.{_≡_, ap, sym, _∙_}
 use mathlib.Core.Bool.{false}
 use native.Mathlib.Omega.{arith}
@@ -20,15 +20,15 @@ abbrev held : ℤ → ℤ
 held z = toZ w32 (ofZ w32 z)
 
 module _ (z : ℤ) (f : SFits w32 z) where
-  back : held z ≡ z
-  back = toZ-ofZ f
+  held-same : held z ≡ z
+  held-same = toZ-ofZ f
 
   module _ (low : ltZ (held z) (negℤ (pos 6)) ≡ false) (high : ltZ (pos 6) (held z) ≡ false) where
     is-count : T (isCount z)
-    is-count = counted z (rw back at low) (rw back at high)
+    is-count = counted z (rw held-same at low) (rw held-same at high)
 
     sum : held z +ℤ pos 6 ≡ pos (heightOf z)
-    sum = ap (λ (x : ℤ). x +ℤ pos 6) back ∙ plus-six z is-count
+    sum = ap (λ (x : ℤ). x +ℤ pos 6) held-same ∙ plus-six z is-count
 
     sum-fits : SFits w32 (held z +ℤ pos 6)
     sum-fits = rw sum (record { sfits = omega (arith, height-less z is-count) })
@@ -43,8 +43,8 @@ pub count-height-spec : {M : Type 1} → statement M
 count-height-spec =
     tie.close
     (tie.spec
-    (λ c. sym (below _ (rw (back _ (c .before .fits .count)) at (c .if1 .taken))))
-    (λ c. sym (above _ (rw (back _ (c .before .before .fits .count)) at (c .if2 .taken))))
+    (λ c. sym (below _ (rw (held-same _ (c .before .fits .count)) at (c .if1 .taken))))
+    (λ c. sym (above _ (rw (held-same _ (c .before .before .fits .count)) at (c .if2 .taken))))
     (λ c. sum-fits _ (c .before .before .fits .count) (c .before .if1 .left) (c .if2 .left))
     (λ c. cast _ (c .before .before .fits .count) (c .before .if1 .left) (c .if2 .left))
     (λ c. ap natAbs (result _ (c .before .before .fits .count) (c .before .if1 .left) (c .if2 .left))))

@@ -1,4 +1,4 @@
--- `qualities::note::height` meets its contract: by the accidental's case.
+-- `notes::note::height` meets its contract: by the accidental's case.
 use mathlib.Core.Path.{_≡_, ap, sym, _∙_}
 use lib.IntN.{ℤ}
 use mir.Facts.{toZ-ofZ}

@@ -1,4 +1,4 @@
--- `qualities::note::letter_byte` meets its contract: a test of the seven letters.
+-- `notes::note::letter_byte` meets its contract: a test of the seven letters.
 use mathlib.Core.Path.{_≡_}
 use mathlib.Core.Bool.{Bool}
 use Prim.Native.Nat.{ℕ, _+_, _%_}

@@ -1,4 +1,4 @@
--- `qualities::note::moved` meets its contract.
+-- `notes::note::moved` meets its contract.
 use mathlib.Core.Path.{_≡_, ap, _∙_}
 use Prim.Native.Nat.{ℕ, _+_, _-_, _%_}
 use native.Mathlib.Omega.{arith}

@@ -1,4 +1,4 @@
--- `qualities::note::natural_semitone` meets its contract: each arm has its letter's semitone, and the last is the letter that is left.
+-- `notes::note::natural_semitone` meets its contract: each arm has its letter's semitone, and the last is the letter that is left.
 use mathlib.Core.Path.{_≡_, refl}
 use native.Mathlib.Omega.{arith}
 use borrow.Author.Needs.{needs}

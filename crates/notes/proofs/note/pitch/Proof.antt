@@ -1,4 +1,4 @@
--- `qualities::note::pitch` meets its contract.
+-- `notes::note::pitch` meets its contract.
 use mathlib.Core.Path.{_≡_, ap₂, _∙_}
 use Prim.Native.Nat.{ℕ, _+_, _%_}
 use native.Mathlib.Omega.{arith}

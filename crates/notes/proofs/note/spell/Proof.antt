@@ -1,4 +1,4 @@
--- `qualities::note::spell` meets its contract: the tests say which height the difference has.
+-- `notes::note::spell` meets its contract: the tests say which height the difference has.
 use mathlib.Core.Path.{_≡_, ap, sym, _∙_}
 use Prim.Native.Nat.{ℕ, _+_, _-_, _<_, _≤_}
 use native.Mathlib.Omega.{arith}

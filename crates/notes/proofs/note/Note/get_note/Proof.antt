@@ -1,4 +1,4 @@
--- `qualities::note::Note::get_note` meets its contract: the tests say which case of its answer holds.
+-- `notes::note::Note::get_note` meets its contract: the tests say which case of its answer holds.
 use mathlib.Core.Path.{ap}
 use Prim.Native.Nat.{_<_}
 use native.Mathlib.Omega.{arith}

@@ -1,4 +1,4 @@
--- `qualities::note::Note::new` meets its contract: a signed number whose bits are 0 is 0.
+-- `notes::note::Note::new` meets its contract: a signed number whose bits are 0 is 0.
 use mathlib.Core.Path.{_≡_, refl, ap, sym, _∙_}
 use lib.Dec.{T, eqb, eqb→eq, not-T}
 use lib.IntN.{ℤ, pos, negsuc}

@@ -1,4 +1,4 @@
--- `qualities::note::Note::text` meets its contract: the note's word fills a buffer of eight bytes from the front, and its text is given.
+-- `notes::note::Note::text` meets its contract: the note's word fills a buffer of eight bytes from the front, and its text is given.
 use mathlib.Core.Path.{_≡_, ap, sym, _∙_}
 use mathlib.Core.Bool.{true}
 use mathlib.Core.List.{List}

@@ -1,4 +1,4 @@
--- `qualities::note::Note::to_semitone` meets its contract.
+-- `notes::note::Note::to_semitone` meets its contract.
 use mathlib.Core.Path.{ap}
 use borrow.Author.Needs.{needs}
 use Rattle.answer.proofs.Tests.{refused, admitted}

@@ -1,4 +1,4 @@
--- `qualities::note::Note::to_word` meets its contract: the letter's byte, and the signs of its height behind it.
+-- `notes::note::Note::to_word` meets its contract: the letter's byte, and the signs of its height behind it.
 use mathlib.Core.Path.{ap, ap₂, sym, _∙_}
 use mathlib.Core.List.{_∷_}
 use Prim.Native.Nat.{_+_}

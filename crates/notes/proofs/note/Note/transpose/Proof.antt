@@ -1,4 +1,4 @@
--- `qualities::note::Note::transpose` meets its contract: the tests say whether all three are notes.
+-- `notes::note::Note::transpose` meets its contract: the tests say whether all three are notes.
 use mathlib.Core.Path.{_≡_, ap, ap₂, _∙_}
 use mathlib.Core.Bool.{true}
 use Prim.Native.Nat.{ℕ, _+_, _-_, _%_, _<_}

@@ -1,0 +1,68 @@
+-- Laws of tables of notes.
+use mathlib.Core.Path.{_≡_, refl}
+use mathlib.Core.Bool.{true}
+use mathlib.Core.List.{List, [], _∷_, map}
+use Prim.Native.Nat.{ℕ, zero, suc, _≤_}
+use native.Mathlib.Omega.{arith}
+use lib.Dec.{T, leb, leb→le}
+use lib.ListN.{length}
+use Rattle.answer.specs.Words.{bytes}
+use Rattle.answer.specs.Lines.{lineFeeds}
+use Rattle.answer.proofs.Digits.{isShort, areBytes}
+use Rattle.answer.proofs.Tests.{left, right, is-true}
+use Rattle.notes.specs.Notes.{isNote}
+use Rattle.notes.specs.NoteText.{letterName, signs, noteName}
+use Rattle.notes.specs.declared.note.Note.{Note}
+use Rattle.notes.specs.declared.note.NoteAnswer.the-variants.{Is}
+use Rattle.notes.proofs.Names as text
+use Rattle.names.specs.Names.{flats, nameOf, noteIn, isBrief, areBrief}
+
+-- the twelve as paper 01 writes them
+pub flats-read : map (noteName signs) flats
+    ≡ bytes "C" ∷ bytes "Db" ∷ bytes "D" ∷ bytes "Eb" ∷ bytes "E" ∷ bytes "F" ∷ bytes "Gb" ∷ bytes "G" ∷ bytes "Ab" ∷ bytes "A" ∷ bytes "Bb"
+    ∷ bytes "B" ∷ []
+unfolding flats noteName letterName signs bytes
+flats-read = refl
+
+pub flats-brief : T (areBrief flats)
+unfolding areBrief flats noteName letterName signs bytes
+flats-brief = tt
+
+-- the first of a table's notes, and the others
+module _ (n : Note) (more : List Note) (brief : T (areBrief (n ∷ more))) where
+  first-is : isNote n ≡ true
+  unfolding areBrief
+  first-is = is-true (isNote n) (left (isNote n) _ (left (isBrief n) (areBrief more) brief))
+
+  first-length : length (noteName signs n) ≤ 2
+  unfolding areBrief
+  first-length = leb→le (length (noteName signs n)) 2 (right (isNote n) _ (left (isBrief n) (areBrief more) brief))
+
+  rest-brief : T (areBrief more)
+  unfolding areBrief
+  rest-brief = right (isBrief n) (areBrief more) brief
+
+-- what holds of no text, and of a note's of at most two bytes, holds of each name
+each-name : (P : List ℕ → Type 0) → P [] → ((n : Note) → isNote n ≡ true → length (noteName signs n) ≤ 2 → P (noteName signs n))
+    → (table : List Note) → T (areBrief table) → (c : ℕ) → P (nameOf table c)
+each-name P none some [] t c = none
+each-name P none some (n ∷ more) t zero = some n (first-is n more t) (first-length n more t)
+each-name P none some (n ∷ more) t (suc c) = each-name P none some more (rest-brief n more t) c
+
+module _ (table : List Note) (brief : T (areBrief table)) where
+  pub name-short : (c : ℕ) → T (isShort (nameOf table c))
+  unfolding isShort areBytes
+  name-short = each-name (λ t. T (isShort t)) tt (λ n note two. text.name-short n note) table brief
+
+  pub name-length : (c : ℕ) → length (nameOf table c) ≤ 2
+  name-length = each-name (λ t. length t ≤ 2) (omega arith) (λ n note two. two) table brief
+
+  pub name-line : (c : ℕ) → lineFeeds (nameOf table c) ≡ 0
+  unfolding lineFeeds
+  name-line = each-name (λ t. lineFeeds t ≡ 0) refl (λ n note two. text.name-line n note) table brief
+
+-- what a table gives for a class is a note
+pub note-in : (table : List Note) → T (areBrief table) → (c : ℕ) (n : Note) → noteIn table c ≡ Is n → isNote n ≡ true
+note-in [] t c n e = absurd (let no-way : _≡_ {A = ℕ} 0 1 = cc in let bottom : ⊥ = omega arith in bottom)
+note-in (m ∷ more) t zero n e = let same : m ≡ n = cc in rw same at (first-is m more t)
+note-in (m ∷ more) t (suc c) n e = note-in more (rest-brief m more t) c n e

@@ -1,0 +1,22 @@
+-- `names::table::class_note` meets its contract: the row's note, and past the last class none.
+use mathlib.Core.Path.{_≡_, sym, ap, _∙_}
+use mathlib.Core.List.{map}
+use Prim.Native.Nat.{_≤_}
+use native.Mathlib.Omega.{arith}
+use lib.ListN.{length, List·getD-eq-default}
+use borrow.Author.Needs.{needs}
+use Rattle.answer.specs.declared.refusal.Refusal.the-variants.{BadClass}
+use Rattle.notes.specs.declared.note.NoteAnswer.the-variants.{Is, Refused}
+use Rattle.names.specs.Names.{flats}
+use Rattle.names.proofs.table.class_note.Statement.{statement}
+use Rattle.names.proofs.table.class_note.Tie as tie
+
+returns : tie.Need-returns
+unfolding flats
+returns c = let past = c .if1 .taken in sym (List·getD-eq-default (map Is flats) (Refused BadClass) {n = c .before .args .class} (omega arith))
+
+returns-2 : tie.Need-returns-2
+returns-2 c = sym (c .row-of .ensures .note (omega arith))
+
+pub class-note-spec : {M : Type 1} → statement M
+class-note-spec = tie.close (tie.spec returns (λ c κs. search needs) returns-2)

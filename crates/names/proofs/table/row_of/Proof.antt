@@ -1,0 +1,43 @@
+-- `names::table::row_of` meets its contract: each arm is the row at its number, and the last is past them all.
+use mathlib.Core.Path.{_≡_, refl, sym, ap}
+use mathlib.Core.List.{[], map}
+use Prim.Native.Nat.{ℕ, _<_}
+use native.Mathlib.Omega.{arith}
+use lib.ListN.{length, List·getD-eq-default}
+use Rattle.answer.specs.Words.{bytes, low, packed}
+use Rattle.answer.proofs.Arms.{Nones, nones}
+use Rattle.notes.specs.NoteText.{letterName, signs, noteName}
+use Rattle.notes.specs.declared.note.NoteAnswer.the-variants.{Is}
+use Rattle.names.specs.Names.{flats, nameOf, noteIn}
+use Rattle.names.specs.Rows.{Tells}
+use Rattle.names.specs.declared.table.Row.{Row}
+use Rattle.names.proofs.table.row_of.Statement.{statement}
+use Rattle.names.proofs.table.row_of.Tie as tie
+
+row-tells : (class k : ℕ) (row : Row) → class ≡ k → noteIn flats k ≡ Is (record { letter = row .0; accidental = row .1 }) → row .2 ≡ packed (nameOf flats k) → Tells class row
+row-tells class k row e note name = rw e (record { note = λ h. note; name = name })
+
+no-name : (n : ℕ) → Nones n 12 → packed (nameOf flats n) ≡ 0
+unfolding flats packed low
+no-name n none =
+    let no-less : ¬ (n < 12) = nones n 12 none in
+    ap packed (List·getD-eq-default (map (noteName signs) flats) [] {n = n} (omega arith))
+
+pub row-of-spec : {M : Type 1} → statement M
+unfolding flats noteName letterName signs bytes low packed
+row-of-spec =
+    tie.close
+    (tie.spec
+    (λ c. row-tells _ 0 _ (c .match .keys1) refl refl)
+    (λ c. row-tells _ 1 _ (c .match .keys2) refl refl)
+    (λ c. row-tells _ 2 _ (c .match .keys3) refl refl)
+    (λ c. row-tells _ 3 _ (c .match .keys4) refl refl)
+    (λ c. row-tells _ 4 _ (c .match .keys5) refl refl)
+    (λ c. row-tells _ 5 _ (c .match .keys6) refl refl)
+    (λ c. row-tells _ 6 _ (c .match .keys7) refl refl)
+    (λ c. row-tells _ 7 _ (c .match .keys8) refl refl)
+    (λ c. row-tells _ 8 _ (c .match .keys9) refl refl)
+    (λ c. row-tells _ 9 _ (c .match .keys10) refl refl)
+    (λ c. row-tells _ 10 _ (c .match .keys11) refl refl)
+    (λ c. row-tells _ 11 _ (c .match .keys12) refl refl)
+    (λ c. record { note = λ h. absurd (nones _ 12 (c .match .rest) h); name = sym (no-name _ (c .match .rest)) }))

@@ -1,0 +1,12 @@
+-- The code's table of classes.
+use mathlib.Core.Path.{_≡_}
+use Prim.Native.Nat.{ℕ, _<_}
+use Rattle.answer.specs.Words.{packed}
+use Rattle.notes.specs.declared.note.NoteAnswer.the-variants.{Is}
+use Rattle.names.specs.Names.{flats, nameOf, noteIn}
+use Rattle.names.specs.declared.table.Row.{Row}
+
+-- a row has the note of its class, where the number is one, and the word of its name
+pub record Tells (class : ℕ) (row : Row) : Type 0 where
+  pub note : class < 12 → noteIn flats class ≡ Is (record { letter = row .0; accidental = row .1 })
+  pub name : row .2 ≡ packed (nameOf flats class)

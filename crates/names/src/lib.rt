@@ -1,0 +1,2 @@
+// Names of the pitch classes: the Rust's `inference/tables.rs`.
+pub mod table;
