@@ -2,10 +2,10 @@
 --     F-decides      the contract of `F` allows one answer to each call, and one content of the range that it is lent
 use denote.Ref.{now}
 use Rattle.answer.proofs.Determined.{Decides, DecidesWith, determined, both}
-use Rattle.hemotusap.proofs.names.hemotusap_quality.Reads as quality
+use Rattle.hemotusap.proofs.naming.hemotusap_quality.Reads as quality
 use Rattle.hemotusap.proofs.moves.hemotusap_get_note.Reads as get-note
 use Rattle.hemotusap.proofs.moves.hemotusap_transpose.Reads as transpose
-use Rattle.hemotusap.proofs.names.hemotusap_note_text.Reads as note-text
+use Rattle.hemotusap.proofs.naming.hemotusap_note_text.Reads as note-text
 use Rattle.hemotusap.proofs.symbols.hemotusap_suffix.Reads as suffix
 use Rattle.hemotusap.proofs.symbols.hemotusap_listing.Reads as listing
 use Rattle.hemotusap.proofs.symbols.hemotusap_tones.Reads as tones

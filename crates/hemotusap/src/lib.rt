@@ -2,6 +2,6 @@
 // include/hemotusap.h declares them for C and C++.
 mod host;
 pub mod moves;
-pub mod names;
+pub mod naming;
 pub mod symbols;
 pub mod voices;

@@ -1,10 +1,10 @@
--- `hemotusap::names::hemotusap_quality` meets its contract.
+-- `hemotusap::naming::hemotusap_quality` meets its contract.
 use mathlib.Core.Path.{_≡_, ap, _∙_}
 use mir.Facts.{toZ-ofZ}
 use borrow.Author.Needs.{needs}
 use Rattle.hemotusap.specs.Host.{qualityNumber}
-use Rattle.hemotusap.proofs.names.hemotusap_quality.Statement.{statement}
-use Rattle.hemotusap.proofs.names.hemotusap_quality.Tie as tie
+use Rattle.hemotusap.proofs.naming.hemotusap_quality.Statement.{statement}
+use Rattle.hemotusap.proofs.naming.hemotusap_quality.Tie as tie
 
 pub hemotusap-quality-spec : {M : Type 1} → statement M
 hemotusap-quality-spec =

@@ -1,4 +1,4 @@
--- `hemotusap::names::hemotusap_note_text` meets its contract.
+-- `hemotusap::naming::hemotusap_note_text` meets its contract.
 use mathlib.Core.Path.{_≡_, ap, _∙_}
 use native.Mathlib.Omega.{arith}
 use denote.Ref.{now}
@@ -7,8 +7,8 @@ use borrow.Author.Needs.{needs}
 use Rattle.notes.specs.Notes.{noteOf}
 use Rattle.hemotusap.specs.Host.{outputNumber}
 use Rattle.hemotusap.proofs.Wide.{output-fits}
-use Rattle.hemotusap.proofs.names.hemotusap_note_text.Statement.{statement}
-use Rattle.hemotusap.proofs.names.hemotusap_note_text.Tie as tie
+use Rattle.hemotusap.proofs.naming.hemotusap_note_text.Statement.{statement}
+use Rattle.hemotusap.proofs.naming.hemotusap_note_text.Tie as tie
 
 note : (c : tie.After-new) → c .new .result ≡ noteOf (c .before .before .args .letter) (c .before .before .args .accidental)
 note c = c .new .ensures ∙ ap (noteOf (c .before .before .args .letter)) (toZ-ofZ (c .before .before .fits .accidental))
