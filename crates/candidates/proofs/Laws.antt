@@ -11,8 +11,8 @@ use Rattle.answer.specs.Lines.{lineFeeds}
 use Rattle.answer.proofs.Feeds.{feeds-append}
 use Rattle.intervals.specs.Sets.{has, classCount}
 use Rattle.notes.specs.declared.note.Note.{Note}
-use Rattle.names.specs.Names.{nameOf, areBrief}
-use Rattle.names.proofs.Named.{name-line}
+use Rattle.names.specs.Names.{nameOf}
+use Rattle.names.proofs.Named.{areBrief, name-line}
 use Rattle.rules.specs.Suffix.{suffixOf}
 use Rattle.rules.proofs.Short.{suffix-line}
 use Rattle.candidates.specs.Keys.{seenFrom, classSet, firsts}

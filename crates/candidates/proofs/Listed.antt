@@ -14,8 +14,8 @@ use Rattle.answer.specs.Words.{bytes}
 use Rattle.intervals.specs.Sets.{has}
 use Rattle.answer.specs.Written.{Writes}
 use Rattle.notes.specs.declared.note.Note.{Note}
-use Rattle.names.specs.Names.{nameOf, areBrief}
-use Rattle.names.proofs.Named.{name-length}
+use Rattle.names.specs.Names.{nameOf}
+use Rattle.names.proofs.Named.{areBrief, name-length}
 use Rattle.rules.specs.Suffix.{suffixOf}
 use Rattle.rules.proofs.Short.{suffix-short}
 use Rattle.candidates.specs.Keys.{seenFrom, classSet, firsts}
