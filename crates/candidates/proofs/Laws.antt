@@ -1,8 +1,8 @@
 -- Laws of the listing that its readers rely on, for any table of brief names.
 use mathlib.Core.Path.{_≡_, refl, sym, ap, ap₂, _∙_}
 use mathlib.Core.Bool.{true}
-use mathlib.Core.List.{List, [], _∷_, _++_}
-use Prim.Native.Nat.{ℕ, suc, _+_, _<_, suc-le-suc}
+use mathlib.Core.List.{List, [], _∷_}
+use Prim.Native.Nat.{ℕ, suc, _<_, suc-le-suc}
 use native.Mathlib.Omega.{arith}
 use lib.Dec.{T}
 use lib.ListN.{length}
@@ -11,9 +11,8 @@ use Rattle.answer.specs.Lines.{lineFeeds}
 use Rattle.answer.proofs.Feeds.{feeds-append}
 use Rattle.intervals.specs.Sets.{has, classCount}
 use Rattle.notes.specs.declared.note.Note.{Note}
-use Rattle.names.specs.Names.{nameOf, areBrief}
-use Rattle.names.proofs.Named.{name-line}
-use Rattle.rules.specs.Suffix.{suffixOf}
+use Rattle.names.specs.Names.{nameOf}
+use Rattle.names.proofs.Named.{areBrief, name-line}
 use Rattle.rules.proofs.Short.{suffix-line}
 use Rattle.candidates.specs.Keys.{seenFrom, classSet, firsts}
 use Rattle.candidates.specs.Candidates.{Classes, chord, over, line, lines, listing, candidatesOf}

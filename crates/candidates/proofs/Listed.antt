@@ -1,5 +1,5 @@
 -- Laws of the lines of candidates, for any table of brief names.
-use mathlib.Core.Path.{_≡_, refl, sym, ap, subst, _∙_}
+use mathlib.Core.Path.{_≡_, refl, sym, ap, _∙_}
 use mathlib.Core.Bool.{true}
 use mathlib.Core.List.{List, [], _∷_, _++_, append-nil, append-assoc}
 use Prim.Native.Nat.{ℕ, suc, _+_, _-_, _*_, _<_, _≤_, suc-le-suc}
@@ -14,9 +14,8 @@ use Rattle.answer.specs.Words.{bytes}
 use Rattle.intervals.specs.Sets.{has}
 use Rattle.answer.specs.Written.{Writes}
 use Rattle.notes.specs.declared.note.Note.{Note}
-use Rattle.names.specs.Names.{nameOf, areBrief}
-use Rattle.names.proofs.Named.{name-length}
-use Rattle.rules.specs.Suffix.{suffixOf}
+use Rattle.names.specs.Names.{nameOf}
+use Rattle.names.proofs.Named.{areBrief, name-length}
 use Rattle.rules.proofs.Short.{suffix-short}
 use Rattle.candidates.specs.Keys.{seenFrom, classSet, firsts}
 use Rattle.candidates.specs.Candidates.{Classes, chord, over, line, lines, listing, candidatesOf}

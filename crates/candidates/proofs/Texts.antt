@@ -1,5 +1,5 @@
 -- Laws of words as the texts that they hold.
-use mathlib.Core.Path.{_≡_, refl, sym, ap, subst, _∙_}
+use mathlib.Core.Path.{_≡_, sym, ap, subst, _∙_}
 use mathlib.Core.List.{List, _++_}
 use Prim.Native.Nat.{ℕ, _+_, _≤_}
 use native.Mathlib.Omega.{arith}
@@ -12,8 +12,8 @@ use Rattle.answer.specs.Words.{packed, digits, long, placeAfter, putAt}
 use Rattle.answer.specs.Written.{Writes}
 use Rattle.answer.proofs.Digits.{isShort, place-text, put-text}
 use Rattle.notes.specs.declared.note.Note.{Note}
-use Rattle.names.specs.Names.{nameOf, areBrief}
-use Rattle.names.proofs.Named.{name-short, name-length}
+use Rattle.names.specs.Names.{nameOf}
+use Rattle.names.proofs.Named.{areBrief, name-short, name-length}
 use Rattle.candidates.specs.Texts.{textOf}
 
 pub text-length : (w : ℕ) → long w ≤ 2 → length (textOf w) ≡ long w

@@ -1,6 +1,6 @@
 -- Laws of tables of notes.
 use mathlib.Core.Path.{_≡_, refl}
-use mathlib.Core.Bool.{true}
+use mathlib.Core.Bool.{Bool, true, _&&_}
 use mathlib.Core.List.{List, [], _∷_, map}
 use Prim.Native.Nat.{ℕ, zero, suc, _≤_}
 use native.Mathlib.Omega.{arith}
@@ -15,7 +15,16 @@ use Rattle.notes.specs.NoteText.{letterName, signs, noteName}
 use Rattle.notes.specs.declared.note.Note.{Note}
 use Rattle.notes.specs.declared.note.NoteAnswer.the-variants.{Is}
 use Rattle.notes.proofs.Names as text
-use Rattle.names.specs.Names.{flats, nameOf, noteIn, isBrief, areBrief}
+use Rattle.names.specs.Names.{flats, nameOf, noteIn}
+
+-- a note whose text has at most two bytes
+abbrev isBrief : Note → Bool
+isBrief n = isNote n && leb (length (noteName signs n)) 2
+
+-- a table of such notes: what stands above holds for any
+unfoldable pub areBrief : List Note → Bool
+areBrief [] = true
+areBrief (n ∷ more) = isBrief n && areBrief more
 
 -- the twelve as paper 01 writes them
 pub flats-read : map (noteName signs) flats

@@ -1,12 +1,10 @@
 -- Names of the pitch classes: paper 01, "Candidates" and "Notes". What cites a table holds for any table of notes.
-use mathlib.Core.Bool.{Bool, true, _&&_}
 use mathlib.Core.List.{List, [], _∷_, map}
 use Prim.Native.Nat.{ℕ}
-use lib.Dec.{leb}
 use lib.IntN.{pos, negsuc}
-use lib.ListN.{length, getD}
+use lib.ListN.{getD}
 use Rattle.answer.specs.declared.refusal.Refusal.the-variants.{BadClass}
-use Rattle.notes.specs.Notes.{noteOf, isNote}
+use Rattle.notes.specs.Notes.{noteOf}
 use Rattle.notes.specs.NoteText.{signs, noteName}
 use Rattle.notes.specs.declared.note.Note.{Note}
 use Rattle.notes.specs.declared.note.NoteAnswer.{NoteAnswer}
@@ -32,12 +30,3 @@ nameOf table class = getD (map (noteName signs) table) class []
 -- the note of a class in a table; refusal 2 past it: "a root or bass class above 11"
 abbrev pub noteIn : List Note → ℕ → NoteAnswer
 noteIn table class = getD (map Is table) class (Refused BadClass)
-
--- a note whose text has at most two bytes
-abbrev pub isBrief : Note → Bool
-isBrief n = isNote n && leb (length (noteName signs n)) 2
-
--- a table of such notes: what a listing takes its names from
-unfoldable pub areBrief : List Note → Bool
-areBrief [] = true
-areBrief (n ∷ more) = isBrief n && areBrief more

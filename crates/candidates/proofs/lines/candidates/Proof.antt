@@ -1,5 +1,5 @@
 -- `candidates::lines::candidates` meets its contract: the classes are found, their lines fill a buffer from the front, and those are given.
-use mathlib.Core.Path.{_≡_, ap, ap₂, sym, subst, _∙_}
+use mathlib.Core.Path.{_≡_, ap, ap₂, sym, _∙_}
 use mathlib.Core.List.{List}
 use Prim.Native.Nat.{ℕ}
 use native.Mathlib.Omega.{arith}

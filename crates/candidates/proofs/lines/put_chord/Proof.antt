@@ -1,5 +1,4 @@
 -- `candidates::lines::put_chord` meets its contract: a name, and a suffix behind it.
-use mathlib.Core.Path.{_≡_}
 use native.Mathlib.Omega.{arith}
 use denote.Ref.{now}
 use borrow.Author.Needs.{needs}

@@ -1,5 +1,5 @@
 -- `candidates::lines::put_first` meets its contract: a chord, and a line feed behind it.
-use mathlib.Core.Path.{_≡_, refl}
+use mathlib.Core.Path.{refl}
 use mathlib.Core.List.{[], _∷_}
 use native.Mathlib.Omega.{arith}
 use borrow.Author.Needs.{needs}

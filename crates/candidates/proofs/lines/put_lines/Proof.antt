@@ -1,20 +1,18 @@
 -- `candidates::lines::put_lines` meets its contract. The loop's invariant: the lines of the classes before `i` are written.
-use mathlib.Core.Path.{_≡_, refl, ap, ap₂, sym, subst, _∙_}
+use mathlib.Core.Path.{_≡_, refl, ap, ap₂, subst, _∙_}
 use mathlib.Core.Bool.{true}
 use mathlib.Core.List.{List, []}
 use Prim.Native.Nat.{ℕ, _+_, _-_, _<_, _≤_}
 use native.Mathlib.Omega.{arith}
-use lib.ListN.{length, getD}
+use lib.ListN.{length}
 use denote.Ref.{now}
 use borrow.Author.Needs.{needs}
 use borrow.Rule.Slice.PartMut.{putMid, same-len-mid}
 use Rattle.intervals.specs.Sets.{has}
-use Rattle.answer.specs.Written.{Writes}
 use Rattle.answer.proofs.Writing.{same-text}
-use Rattle.names.specs.Names.{nameOf, flats}
+use Rattle.names.specs.Names.{flats}
 use Rattle.names.proofs.Named.{flats-brief}
 use Rattle.candidates.specs.Candidates.{over, line}
-use Rattle.candidates.specs.Texts.{textOf}
 use Rattle.candidates.proofs.Parts.{part-long}
 use Rattle.candidates.proofs.Texts.{name-long, name-text}
 use Rattle.candidates.proofs.Listed.{Listed, listed-first, listed-next, all-listed, none-listed}

@@ -1,5 +1,5 @@
 -- `candidates::lines::put_next` meets its contract: a chord, what it is over, and a line feed behind them.
-use mathlib.Core.Path.{_≡_, refl}
+use mathlib.Core.Path.{refl}
 use mathlib.Core.List.{[], _∷_}
 use Prim.Native.Nat.{_≤_}
 use native.Mathlib.Omega.{arith}

@@ -1,5 +1,5 @@
 -- `candidates::lines::put_over` meets its contract: two words, one behind the other.
-use mathlib.Core.Path.{_≡_, refl}
+use mathlib.Core.Path.{refl}
 use native.Mathlib.Omega.{arith}
 use denote.Ref.{now}
 use borrow.Author.Needs.{needs}

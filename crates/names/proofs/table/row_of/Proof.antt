@@ -3,7 +3,7 @@ use mathlib.Core.Path.{_≡_, refl, sym, ap}
 use mathlib.Core.List.{[], map}
 use Prim.Native.Nat.{ℕ, _<_}
 use native.Mathlib.Omega.{arith}
-use lib.ListN.{length, List·getD-eq-default}
+use lib.ListN.{List·getD-eq-default}
 use Rattle.answer.specs.Words.{bytes, low, packed}
 use Rattle.answer.proofs.Arms.{Nones, nones}
 use Rattle.notes.specs.NoteText.{letterName, signs, noteName}
