@@ -1,10 +1,4 @@
 -- Paper 01, "Engraver's proof sheet": its first twelve rows, marked P, as one table.
---     Call       what a row asks of the library
---     Found      what it finds: what a call has to give, or a quality's answer
---     answerOf   a call, evaluated by the definition that its contract cites
---     Row        calls, and what each of them finds
---     sheet      the twelve rows
---     Holds      what a row says is so; AllHold, of each row of a table
 use mathlib.Core.Path.{_≡_}
 use mathlib.Core.List.{List, [], _∷_, map}
 use Prim.Native.Nat.{ℕ}
@@ -27,6 +21,7 @@ use Rattle.voicings.specs.declared.voicing.Bass.the-variants as Bass
 use Rattle.voicings.specs.declared.voicing.Lead.{Lead}
 use Rattle.voicings.specs.declared.voicing.Lead.the-variants as Lead
 
+-- what a row asks of the library ("Given")
 pub data Call : Type 0 where
   suffix : ℕ → Call
   quality : ℕ → Call
@@ -34,10 +29,12 @@ pub data Call : Type 0 where
   -- on C with no bass: note classes, their intervals, the lead
   voicing : List ℕ → List Interval → Lead → Call
 
+-- what a row finds ("Found"): what a call has to give, or a quality's answer
 pub data Found : Type 0 where
   gives : Reply → Found
   says : QualityAnswer → Found
 
+-- a call, evaluated by the definition that its contract cites
 unfoldable pub answerOf : Call → Found
 answerOf (suffix set) = gives (suffixReply set)
 answerOf (quality set) = says (qualityAnswer set)
@@ -45,6 +42,7 @@ answerOf (listing name) = gives (text (listingOf (bytes name)))
 answerOf (voicing classes intervals lead) =
     gives (voicingReply lowestKey highestKey record { root = 0; bass = Bass.None; lead = lead } classes (map numberOf intervals))
 
+-- a row: calls, and what each of them finds
 pub record Row : Type 0 where
   pub given : List Call
   pub found : List Found
@@ -52,6 +50,7 @@ pub record Row : Type 0 where
 abbrev row : List Call → List Found → Row
 row given found = record { given = given; found = found }
 
+-- a text, sets, keys and a quality, as the column "Found" has them
 abbrev written : String → Found
 written t = gives (text (bytes t))
 
@@ -64,6 +63,7 @@ keys l = gives (text l)
 abbrev is : ChordQuality → Found
 is q = says (Is q)
 
+-- the twelve rows
 abbrev pub sheet : List Row
 sheet =
     row (suffix 1 ∷ []) (written "(omit3,5)" ∷ [])
@@ -81,9 +81,11 @@ sheet =
     ∷ row (voicing (0 ∷ 1 ∷ []) (Unison ∷ FlatNinth ∷ []) (Lead.Key 60) ∷ []) (keys (36 ∷ 0 ∷ []) ∷ [])
     ∷ []
 
+-- what a row says is so
 abbrev pub Holds : Row → Type 0
 Holds r = map answerOf (r .given) ≡ r .found
 
+-- and what each row of a table says
 abbrev pub AllHold : List Row → Type 0
 AllHold [] = Unit {0}
 AllHold (r ∷ more) = Holds r × AllHold more
