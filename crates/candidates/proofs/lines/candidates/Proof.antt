@@ -1,11 +1,12 @@
 -- `candidates::lines::candidates` meets its contract: the classes are found, their lines fill a buffer from the front, and those are given.
-use mathlib.Core.Path.{_≡_, ap, ap₂, sym, _∙_}
+use mathlib.Core.Path.{_≡_, ap, ap₂, sym, subst, _∙_}
 use mathlib.Core.List.{List}
 use Prim.Native.Nat.{ℕ}
 use native.Mathlib.Omega.{arith}
 use lib.ListN.{length, take}
 use denote.Ref.{now}
 use borrow.Author.Needs.{needs}
+use Rattle.answer.specs.Replies.{text, Answered}
 use Rattle.answer.proofs.Writing.{counted, within}
 use Rattle.names.specs.Names.{flats}
 use Rattle.candidates.specs.Keys.{Finds}
@@ -32,7 +33,11 @@ stands c =
     c .put-lines .ensures .added ∙ ap₂ (listing flats) (f .isSet) (f .classes)
 
 returns : tie.Need-returns
-returns c = rw (stands (c .before .before .before .before .before .before)) at (c .before .before .give .ensures)
+returns c =
+    let g = c .before .before in
+    let put = g .before .before .before .before in
+    let s = put .before .before .before .before .before .before .before .before in
+    subst (λ (t : List ℕ). Answered (text t) (now (s .args .out)) (g .give .result) (g .give .last .1 .0)) (stands put) (g .give .ensures)
 
 pub candidates-spec : {M : Type 1} → statement M
 candidates-spec =
