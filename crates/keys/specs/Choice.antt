@@ -23,7 +23,7 @@ use Rattle.keys.specs.declared.nearest.Offer.{Offer}
 unfoldable pub keysFrom : ℕ → ℕ → ℕ → ℕ → List ℕ
 keysFrom lowest limit zero key = []
 keysFrom lowest limit (suc n) key =
-    cond (leb lowest key && ltb key limit) (key ∷ keysFrom lowest limit n (key + 12)) (keysFrom lowest limit n (key + 12))
+    let higher = keysFrom lowest limit n (key + 12) in cond (leb lowest key && ltb key limit) (key ∷ higher) higher
 
 unfoldable pub keysOf : ℕ → ℕ → ℕ → List ℕ
 keysOf lowest limit class = keysFrom lowest limit 18 (48 + class)
