@@ -1,9 +1,4 @@
 -- Paper 01, "Numbers given back": what a call that writes answers, and what it leaves in the range that it was lent.
---     Reply        what a call has to give, before the room is looked at: a refusal, or a whole text
---     fits         the text is no longer than the room
---     outputOf     the answer: the refusal; the count of bytes written; or refusal 7, "output shorter than the whole answer"
---     roomAfter    the room at exit: "a refusal alters no lent byte", and "bytes behind the written ones are unaltered"
---     Answered     an answer and a room at exit are what a reply and the room at entry say
 use mathlib.Core.Path.{_≡_}
 use mathlib.Core.Bool.{Bool, cond}
 use mathlib.Core.List.{List, _++_}
@@ -15,20 +10,25 @@ use Rattle.answer.specs.declared.refusal.Refusal.the-variants.{NoRoom}
 use Rattle.answer.specs.declared.output.Output.{Output}
 use Rattle.answer.specs.declared.output.Output.the-variants.{Written, Refused}
 
+-- what a call has to give, before the room is looked at: a refusal, or a whole text
 pub data Reply : Type 0 where
   refuse : Refusal → Reply
   text : List ℕ → Reply
 
+-- the text is no longer than the room
 abbrev pub fits : List ℕ → List ℕ → Bool
 fits t room = leb (length t) (length room)
 
+-- the answer: the refusal; the count of bytes written; or refusal 7, "output shorter than the whole answer"
 unfoldable pub outputOf : Reply → List ℕ → Output
 outputOf (refuse why) room = Refused why
 outputOf (text t) room = cond (fits t room) (Written (length t)) (Refused NoRoom)
 
+-- the room at exit: "a refusal alters no lent byte", and "bytes behind the written ones are unaltered"
 unfoldable pub roomAfter : Reply → List ℕ → List ℕ
 roomAfter (refuse why) room = room
 roomAfter (text t) room = cond (fits t room) (t ++ drop (length t) room) room
 
+-- an answer and a room at exit are what a reply and the room at entry say
 abbrev pub Answered : Reply → List ℕ → Output → List ℕ → Type 0
 Answered reply room r left = (r ≡ outputOf reply room) × (left ≡ roomAfter reply room)

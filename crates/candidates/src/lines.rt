@@ -4,19 +4,18 @@ use crate::keys::seen_from;
 use answer::output::Output;
 use answer::output::give;
 use answer::word::put;
-use inference::normalize::suffix;
+use inference::normalize::put_suffix;
 use names::table::class_name;
 ghost use mathlib.Core.Path.{_≡_};
 ghost use mathlib.Core.Bool.{true};
 ghost use mathlib.Core.List.{[]};
-ghost use Prim.Native.Nat.{_+_, _%_, _<_, _≤_};
+ghost use Prim.Native.Nat.{_+_, _<_, _≤_};
 ghost use lib.ListN.{length};
 ghost use Rattle.answer.specs.Replies.{text, Answered};
 ghost use Rattle.intervals.specs.Sets.{has, classCount};
 ghost use Rattle.answer.specs.Written.{Writes};
 ghost use Rattle.answer.specs.Words.{long};
 ghost use Rattle.names.specs.Names.{flats};
-ghost use Rattle.rules.specs.Suffix.{suffixOf};
 ghost use Rattle.candidates.specs.Keys.{classSet};
 ghost use Rattle.candidates.specs.Candidates.{Classes, chord, over, line, listing, candidatesOf};
 ghost use Rattle.candidates.specs.Texts.{textOf};
@@ -26,20 +25,9 @@ const SLASH: u64 = 0x010000000000002f;
 
 const LINE_FEED: u64 = 0x010000000000000a;
 
-// The suffix of a rooted set, behind what stands below a place.
-fn put_suffix(out: &mut [u8], at: usize, set: u32) -> usize
-    requires { ⌜ (set < 4096) × (set % 2 ≡ 1) × (at + 64 ≤ length (now out)) ⌝ }
-    ensures { λ r. ⌜ Writes (now (out .entry)) at (suffixOf set) r (now (out .exit)) ⌝ }
-{
-    match suffix(set, &mut out[at..]) {
-        Output::Written(count) => at + count,
-        Output::Refused(_) => at,
-    }
-}
-
 // A class as a root: its name, and the suffix of the set seen from it.
 fn put_chord(out: &mut [u8], name: u64, class: u32, set: u32) -> usize
-    requires { ⌜ (long name ≤ 2) × (class < 12) × (set < 4096) × (has set class ≡ true) × (66 ≤ length (now out)) ⌝ }
+    requires { ⌜ (long name ≤ 2) × (class < 12) × (set < 4096) × (has set class ≡ true) × (74 ≤ length (now out)) ⌝ }
     ensures { λ r. ⌜ Writes (now (out .entry)) 0 (chord (textOf name) set class) r (now (out .exit)) ⌝ }
 {
     let named = put(out, 0, name);

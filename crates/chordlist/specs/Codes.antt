@@ -28,6 +28,7 @@ space = 32
 abbrev pub isDigit : ℕ → Bool
 isDigit byte = leb digit0 byte && leb byte digit9
 
+-- each byte of a text is a digit
 unfoldable pub areDigits : List ℕ → Bool
 areDigits [] = true
 areDigits (byte ∷ more) = isDigit byte && areDigits more

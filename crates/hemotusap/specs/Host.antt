@@ -1,12 +1,5 @@
 -- What a host gets back: paper 01, "Ported, added, left behind" ("A success comes back there as the count of bytes written, the
 -- quality number, or for a note 16 × letter + count + 6 (no accidental counts 0); a refusal comes back as minus its number").
---     minus                minus a refusal's number, numbered as `number` says
---     refusalNumber        a refusal, numbered as paper 01 has it
---     HostAnswered         a number and a room at exit are what a reply and the room at entry say
---     outputNumber, qualityNumber, noteNumber, noteAnswerNumber     the answers
---     bassFrom, leadFrom   "There bass 255 means none, and a lead above 255 means none"
---     chordFrom            a chord record of the host's numbers
---     Fits                 an answer's count of bytes is one that a host's 64 bits hold
 use mathlib.Core.Path.{_≡_}
 use mathlib.Core.Bool.{cond}
 use mathlib.Core.List.{List}
@@ -31,39 +24,50 @@ use Rattle.voicings.specs.declared.voicing.Lead.{Lead}
 use Rattle.voicings.specs.declared.voicing.Lead.the-variants as Lead
 use Rattle.voicings.specs.declared.voicing.Chord.{Chord}
 
+-- minus a refusal's number, numbered as `number` says
 abbrev pub minus : (Refusal → ℕ) → Refusal → ℤ
 minus number why = negℤ (pos (number why))
 
+-- a refusal, numbered as paper 01 has it
 abbrev pub refusalNumber : Refusal → ℤ
 refusalNumber why = minus numberOf why
 
+-- "the count of bytes written", or the refusal
 abbrev pub outputNumber : Output → ℤ
 outputNumber (Output.Written n) = pos n
 outputNumber (Output.Refused why) = refusalNumber why
 
+-- a number and a room at exit are what a reply and the room at entry say
 abbrev pub HostAnswered : Reply → List ℕ → ℤ → List ℕ → Type 0
 HostAnswered reply room r left = (r ≡ outputNumber (outputOf reply room)) × (left ≡ roomAfter reply room)
 
+-- "the quality number"
 abbrev pub qualityNumber : QualityAnswer → ℤ
 qualityNumber (Quality.Is q) = pos (Qualities.qualityNumber q)
 qualityNumber (Quality.Refused why) = refusalNumber why
 
+-- "for a note 16 × letter + count + 6 (no accidental counts 0)"
 abbrev pub noteNumber : Note → ℤ
 noteNumber n = pos (16 * n .letter + 6) +ℤ countOf (n .accidental)
 
+-- a note, or the refusal
 abbrev pub noteAnswerNumber : NoteAnswer → ℤ
 noteAnswerNumber (Moved.Is n) = noteNumber n
 noteAnswerNumber (Moved.Refused why) = refusalNumber why
 
+-- "There bass 255 means none"
 abbrev pub bassFrom : ℕ → Bass
 bassFrom bass = cond (eqb bass 255) Bass.None (Bass.Class bass)
 
+-- "a lead above 255 means none"
 abbrev pub leadFrom : ℕ → Lead
 leadFrom lead = cond (leb lead 255) (Lead.Key lead) Lead.None
 
+-- a chord record of the host's numbers
 abbrev pub chordFrom : ℕ → ℕ → ℕ → Chord
 chordFrom root bass lead = record { root = root; bass = bassFrom bass; lead = leadFrom lead }
 
+-- an answer's count of bytes is one that a host's 64 bits hold
 abbrev pub Fits : Output → Type 0
 Fits (Output.Written n) = n < 2 ^ 63
 Fits (Output.Refused why) = Unit {0}

@@ -8,6 +8,7 @@ use Rattle.rules.specs.Heading.{orElse}
 use Rattle.inference.specs.declared.wording.Prefix.{Prefix}
 use Rattle.inference.specs.declared.wording.Prefix.the-variants.{None, Add, Omit}
 
+-- nothing, `add` or `omit`
 abbrev pub prefixText : Prefix → List ℕ
 prefixText None = []
 prefixText Add = bytes "add"

@@ -1,12 +1,4 @@
 -- Intervals and degrees: paper 01, "Sets and intervals" ("Intervals are 0..22 in the order of 004"), and the tables of 004.
---     intervals     the intervals in the order of 004
---     numbered      the interval of a number, 0 to 22
---     rowOf         all that 004 says of an interval: its number, its semitones, its degree by `From<Interval>`, its degree by
---                   `to_degree`, and how it is written in a chord
---     Tells         a row of the code's table has that, with how the interval is written as a word
---     numericOf     the number of a degree
---     classOf       the pitch class of an interval
---     setOf         intervals as a set, a number with the bit of each one's number
 use mathlib.Core.Path.{_≡_}
 use mathlib.Core.List.{List, [], _∷_, map}
 use Prim.Native.Nat.{ℕ, zero, suc, _%_}
@@ -22,6 +14,7 @@ use Rattle.intervals.specs.declared.interval.About.{About}
 use Rattle.intervals.specs.declared.interval.Numbered.{Numbered}
 use Rattle.intervals.specs.declared.interval.Numbered.the-variants.{Is, Nothing}
 
+-- the intervals in the order of 004
 unfoldable pub intervals : List Interval
 intervals =
     Unison ∷ MinorSecond ∷ MajorSecond ∷ MinorThird ∷ MajorThird ∷ PerfectFourth
@@ -29,14 +22,17 @@ intervals =
     ∷ DiminishedSeventh ∷ MinorSeventh ∷ MajorSeventh ∷ Octave ∷ FlatNinth ∷ Ninth
     ∷ SharpNinth ∷ Eleventh ∷ SharpEleventh ∷ FlatThirteenth ∷ Thirteenth ∷ []
 
+-- the interval at a place of a list
 unfoldable pub nth : List Interval → ℕ → Numbered
 nth [] n = Nothing
 nth (i ∷ more) zero = Is i
 nth (i ∷ more) (suc n) = nth more n
 
+-- the interval of a number, 0 to 22
 unfoldable pub numbered : ℕ → Numbered
 numbered n = nth intervals n
 
+-- what 004 keeps of an interval
 pub record Row : Type 0 where
   pub number : ℕ
   pub semitones : ℕ
@@ -44,9 +40,12 @@ pub record Row : Type 0 where
   pub toDegree : IntDegree
   pub notation : List ℕ
 
+-- a row with its text quoted
 abbrev row : ℕ → ℕ → IntDegree → IntDegree → String → Row
 row n s d t text = record { number = n; semitones = s; degree = d; toDegree = t; notation = bytes text }
 
+-- all that 004 says of an interval: its number, its semitones, its degree by `From<Interval>`, its degree by `to_degree`, and how it is written in a
+-- chord
 abbrev pub rowOf : Interval → Row
 rowOf Unison = row 0 0 Root Root "1"
 rowOf MinorSecond = row 1 1 Second Second "b2"
@@ -72,22 +71,27 @@ rowOf SharpEleventh = row 20 18 Degree.Eleventh Degree.Eleventh "#11"
 rowOf FlatThirteenth = row 21 20 Degree.Thirteenth Degree.Thirteenth "b13"
 rowOf Thirteenth = row 22 21 Degree.Thirteenth Degree.Thirteenth "13"
 
+-- "Intervals are 0..22 in the order of 004"
 abbrev pub numberOf : Interval → ℕ
 numberOf i = rowOf i .number
 
+-- its semitones above the root
 abbrev pub semitonesOf : Interval → ℕ
 semitonesOf i = rowOf i .semitones
 
+-- its degree by 004's `From<Interval>`: b5 is a fourth
 abbrev pub degreeOf : Interval → IntDegree
 degreeOf i = rowOf i .degree
 
+-- its degree by 004's `to_degree`: b5 is a fifth
 abbrev pub toDegreeOf : Interval → IntDegree
 toDegreeOf i = rowOf i .toDegree
 
+-- how a chord writes it
 abbrev pub notationOf : Interval → List ℕ
 notationOf i = rowOf i .notation
 
--- a row as the code has it
+-- a row of the code's table has that, with how the interval is written as a word
 pub record Tells (i : Interval) (row : About) : Type 0 where
   pub number : row .0 ≡ numberOf i
   pub semitones : row .1 ≡ semitonesOf i
@@ -95,12 +99,15 @@ pub record Tells (i : Interval) (row : About) : Type 0 where
   pub toDegree : row .3 ≡ toDegreeOf i
   pub notation : row .4 ≡ packed (notationOf i)
 
+-- the pitch class of an interval
 abbrev pub classOf : Interval → ℕ
 classOf i = semitonesOf i % 12
 
+-- intervals as a set, a number with the bit of each one's number
 unfoldable pub setOf : List Interval → ℕ
 setOf found = bits (map numberOf found)
 
+-- the number of a degree
 abbrev pub numericOf : IntDegree → ℕ
 numericOf Root = 1
 numericOf Second = 2

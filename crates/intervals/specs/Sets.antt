@@ -1,31 +1,28 @@
 -- Sets of pitch classes: paper 01, "Sets and intervals" ("A set is a number 0..4095; class k is the bit worth 2^k. It is rooted
 -- when class 0 is in it"). Sets of intervals and of degrees are numbers of the same kind.
---     isSet         a number that is a set of classes
---     has           class k is in the set
---     isRooted      a set with class 0 in it
---     hasAll        each of some classes is in the set
---     hasNone       none of some classes is in the set
---     classCount    how many classes are in the set
---     bits          the set of the numbers of a list
---     isIn          a number is in a list
 use mathlib.Core.Bool.{Bool, true, false, not, cond, _&&_, _||_}
 use mathlib.Core.List.{List, [], _∷_}
 use Prim.Native.Nat.{ℕ, zero, suc, _+_, _/_, _%_, _^_}
 use lib.Dec.{eqb, leb}
 
+-- a number that is a set of classes
 unfoldable pub isSet : ℕ → Bool
 isSet s = leb s 4095
 
+-- class k is in the set
 unfoldable pub has : ℕ → ℕ → Bool
 has s k = eqb (s / 2 ^ k % 2) 1
 
+-- a set with class 0 in it
 unfoldable pub isRooted : ℕ → Bool
 isRooted s = isSet s && has s 0
 
+-- each of some classes is in the set
 unfoldable pub hasAll : ℕ → List ℕ → Bool
 hasAll s [] = true
 hasAll s (k ∷ more) = has s k && hasAll s more
 
+-- none of some classes is in the set
 unfoldable pub hasNone : ℕ → List ℕ → Bool
 hasNone s [] = true
 hasNone s (k ∷ more) = not (has s k) && hasNone s more
@@ -35,13 +32,16 @@ unfoldable pub countBelow : ℕ → ℕ → ℕ
 countBelow zero s = 0
 countBelow (suc n) s = cond (has s n) 1 0 + countBelow n s
 
+-- how many classes are in the set
 unfoldable pub classCount : ℕ → ℕ
 classCount s = countBelow 12 s
 
+-- the set of the numbers of a list
 abbrev pub bits : List ℕ → ℕ
 bits [] = 0
 bits (k ∷ more) = 2 ^ k + bits more
 
+-- a number is in a list
 unfoldable pub isIn : ℕ → List ℕ → Bool
 isIn n [] = false
 isIn n (x ∷ more) = eqb n x || isIn n more

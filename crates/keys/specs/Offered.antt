@@ -1,7 +1,4 @@
 -- Offers as the code holds them: one for each tone, its best.
---     firstKey      the lowest key of a class in the range
---     nearestOf     a tone's best offer, or rank 255 where it has no key
---     keep          the offers of the intervals of a set
 use mathlib.Core.Bool.{cond}
 use mathlib.Core.List.{List, [], _∷_}
 use Prim.Native.Nat.{ℕ, _+_}
@@ -12,12 +9,15 @@ use Rattle.keys.specs.declared.nearest.Offer.{Offer}
 use Rattle.keys.specs.Range.{lowestKey}
 use Rattle.keys.specs.Choice.{nothing, best, offersOf}
 
+-- the lowest key of a class in the range
 abbrev pub firstKey : ℕ → ℕ
 firstKey class = cond (ltb (48 + class) lowestKey) (48 + class + 12) (48 + class)
 
+-- a tone's best offer, or rank 255 where it has no key
 unfoldable pub nearestOf : ℕ → ℕ → ℕ → Tone → Offer
 nearestOf lowest limit wanted t = best (nothing (t .interval)) (offersOf lowest limit wanted t)
 
+-- the offers of the intervals of a set
 unfoldable pub keep : ℕ → List Offer → List Offer
 keep set [] = []
 keep set (o ∷ more) = cond (has set (o .interval)) (o ∷ keep set more) (keep set more)

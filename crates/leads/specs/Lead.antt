@@ -1,12 +1,4 @@
 -- The lead: paper 01, "Voicing (001)".
---     rubs         "bases 1 or 11 apart"
---     barring      a set of intervals without those that some tones bar, the first of them coming behind a tone: "for each tone and its
---                  successor .., bases 1 or 11 apart bar the successor's interval"
---     unbarred     the intervals that none bars, the first tone coming behind the last: "round the ring"
---     leadOf       "The nearest key of an unbarred tone wins, earliest on a tie; none gives 0"
---     owns         a key is one of the tone's
---     withoutLast  "The last tone owning that key, barred or not, leaves the pool"
---     ledOf        the lead of an ordered pool, and the pool that it leaves
 use mathlib.Core.Bool.{Bool, false, cond, _||_}
 use mathlib.Core.List.{List, [], _∷_}
 use Prim.Native.Nat.{ℕ, suc}
@@ -18,37 +10,47 @@ use Rattle.pool.specs.Pool.{poolOf}
 use Rattle.keys.specs.Choice.{distance, keysOf, bestOf, chosen, without}
 use Rattle.leads.specs.declared.lead.Led.{Led}
 
+-- "bases 1 or 11 apart"
 abbrev pub rubs : Tone → Tone → Bool
 rubs t u = eqb (distance (t .base) (u .base)) 1 || eqb (distance (t .base) (u .base)) 11
 
+-- a set of intervals without those that some tones bar, the first of them coming behind a tone: "for each tone and its successor .., bases 1 or 11
+-- apart bar the successor's interval"
 unfoldable pub barring : Tone → List Tone → ℕ → ℕ
 barring t [] free = free
 barring t (next ∷ more) free = barring next more (cond (rubs t next) (without (next .interval) free) free)
 
+-- the last tone of a list that begins with one
 unfoldable pub lastOf : Tone → List Tone → Tone
 lastOf t [] = t
 lastOf t (next ∷ more) = lastOf next more
 
+-- the intervals that none bars, the first tone coming behind the last: "round the ring"
 unfoldable pub unbarred : List Tone → ℕ
 unbarred [] = setOf intervals
 unbarred (t ∷ more) = barring (lastOf t more) (t ∷ more) (setOf intervals)
 
+-- a key is one of the tone's
 unfoldable pub owns : ℕ → ℕ → ℕ → Tone → Bool
 owns lowest highest key t = isIn key (keysOf lowest (suc highest) (t .class))
 
+-- some tone of a list owns the key
 unfoldable pub isOwned : ℕ → ℕ → ℕ → List Tone → Bool
 isOwned lowest highest key [] = false
 isOwned lowest highest key (t ∷ more) = owns lowest highest key t || isOwned lowest highest key more
 
+-- "The last tone owning that key, barred or not, leaves the pool"
 unfoldable pub withoutLast : ℕ → ℕ → ℕ → List Tone → List Tone
 withoutLast lowest highest key [] = []
 withoutLast lowest highest key (t ∷ more) =
     cond (isOwned lowest highest key more) (t ∷ withoutLast lowest highest key more)
     (cond (owns lowest highest key t) more (t ∷ more))
 
+-- "The nearest key of an unbarred tone wins, earliest on a tie; none gives 0"
 unfoldable pub leadOf : ℕ → ℕ → ℕ → List Tone → ℕ
 leadOf lowest highest wanted pool = bestOf lowest (suc highest) wanted (chosen (unbarred pool) 0 pool) .key
 
+-- the lead of an ordered pool, and the pool that it leaves
 unfoldable pub ledOf : ℕ → ℕ → ℕ → List Tone → Led
 ledOf lowest highest wanted pool =
     let lead = leadOf lowest highest wanted pool in record { key = lead; left = poolOf (withoutLast lowest highest lead pool) }

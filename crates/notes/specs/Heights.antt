@@ -1,6 +1,4 @@
 -- Counts as the code carries them: unsigned, from six flats up.
---     heightOf     the height of a count, 0 to 12, and 13 for what is no count
---     behindLetter the word of a note at a height whose letter's byte is 0
 use mathlib.Core.Bool.{cond}
 use mathlib.Core.List.{_∷_}
 use Prim.Native.Nat.{ℕ}
@@ -9,8 +7,10 @@ use Rattle.answer.specs.Words.{packed}
 use Rattle.notes.specs.Notes.{isCount}
 use Rattle.notes.specs.NoteText.{signs}
 
+-- the height of a count, 0 to 12, and 13 for what is no count
 unfoldable pub heightOf : ℤ → ℕ
 heightOf z = cond (isCount z) (natAbs (z +ℤ pos 6)) 13
 
+-- the word of a note at a height whose letter's byte is 0
 unfoldable pub behindLetter : ℕ → ℕ
 behindLetter height = packed (0 ∷ signs (pos height -ℤ pos 6))

@@ -1,8 +1,4 @@
 -- The text of a note: paper 01, "Notes" ("Text: the letter, then `#` or `b` once per count").
---     letterName    the byte of a letter: C D E F G A B
---     signs         how a count is written: `#` or `b` once per count
---     noteName      a note's text, where counts are written as `written` says
---     noteReply     what a call that writes it has to give: refusal 5, or the text
 use mathlib.Core.Bool.{cond}
 use mathlib.Core.List.{List, _∷_}
 use Prim.Native.Nat.{ℕ, suc}
@@ -14,6 +10,7 @@ use Rattle.answer.specs.declared.refusal.Refusal.the-variants.{BadNote}
 use Rattle.notes.specs.Notes.{countOf, isNote}
 use Rattle.notes.specs.declared.note.Note.{Note}
 
+-- the byte of a letter: C D E F G A B
 unfoldable pub letterName : ℕ → ℕ
 letterName l = getD (bytes "CDEFGAB") l 0
 
@@ -21,12 +18,15 @@ letterName l = getD (bytes "CDEFGAB") l 0
 abbrev byte : List ℕ → ℕ
 byte t = getD t 0 0
 
+-- how a count is written: `#` or `b` once per count
 unfoldable pub signs : ℤ → List ℕ
 signs (pos n) = replicate n (byte (bytes "#"))
 signs (negsuc n) = replicate (suc n) (byte (bytes "b"))
 
+-- a note's text, where counts are written as `written` says
 unfoldable pub noteName : (ℤ → List ℕ) → Note → List ℕ
 noteName written n = letterName (n .letter) ∷ written (countOf (n .accidental))
 
+-- what a call that writes it has to give: refusal 5, or the text
 unfoldable pub noteReply : (ℤ → List ℕ) → Note → Reply
 noteReply written n = cond (isNote n) (text (noteName written n)) (refuse BadNote)

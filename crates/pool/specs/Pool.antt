@@ -9,6 +9,7 @@ use Rattle.intervals.specs.declared.interval.Numbered.the-variants.{Is, Nothing
 use Rattle.pool.specs.declared.pool.Tone.{Tone}
 use Rattle.pool.specs.declared.pool.Pool.{Pool}
 
+-- of an interval, or 0 of none
 abbrev pub baseNamed : Numbered → ℕ
 baseNamed (Is i) = classOf i
 baseNamed Nothing = 0
@@ -31,6 +32,7 @@ tonesOf (c ∷ classes) (i ∷ intervals) = toneOf c i ∷ tonesOf classes inter
 abbrev pub blank : Tone
 blank = record { base = 0; class = 0; interval = 0 }
 
+-- sixteen of them
 abbrev pub blanks : List Tone
 blanks = replicate 16 blank
 

@@ -1,7 +1,4 @@
 -- The quality of a set: paper 01, "Quality (003), first that holds", rule by rule in its order.
---     qualityOf        the quality of a set
---     qualityNumber    "qualities 0..12 in the order of 003"
---     qualityAnswer    what a call answers: the quality, or refusal 1 for a number that is no set
 use mathlib.Core.Bool.{cond, _&&_}
 use mathlib.Core.List.{[], _∷_}
 use Prim.Native.Nat.{ℕ}
@@ -13,6 +10,7 @@ use Rattle.qualities.specs.declared.quality.ChordQuality.the-variants.{M
 use Rattle.qualities.specs.declared.quality.QualityAnswer.{QualityAnswer}
 use Rattle.qualities.specs.declared.quality.QualityAnswer.the-variants.{Is, Refused}
 
+-- the quality of a set
 unfoldable pub qualityOf : ℕ → ChordQuality
 qualityOf s =
     cond (eqb (classCount s) 1) Bass
@@ -31,6 +29,7 @@ qualityOf s =
     (cond (hasAll s (7 ∷ [])) Power
     Maj)))))))))))))
 
+-- "qualities 0..12 in the order of 003"
 abbrev pub qualityNumber : ChordQuality → ℕ
 qualityNumber Maj = 0
 qualityNumber Maj6 = 1
@@ -46,5 +45,6 @@ qualityNumber Diminished7 = 10
 qualityNumber Power = 11
 qualityNumber Bass = 12
 
+-- what a call answers: the quality, or refusal 1 for a number that is no set
 unfoldable pub qualityAnswer : ℕ → QualityAnswer
 qualityAnswer s = cond (isSet s) (Is (qualityOf s)) (Refused NotASet)

@@ -1,14 +1,4 @@
 -- Classes become intervals: paper 01, "Sets and intervals" ("Classes become intervals (000)"), sentence by sentence.
---     is, among      two intervals are the same one; an interval is in a list
---     keep           the members of a list that pass a test
---     only           the one interval, where a condition holds
---     atOnce         "At once": the intervals of classes 0, 1, 2, 4, 5, 7, 10 and 11
---     third          "Then in this order": what class 3 becomes
---     fourth         what class 6 becomes
---     sixth          what class 9 becomes
---     fifth          "Last 8"
---     intervalsIn    the intervals of such a set: "Interval sets are visited in rising order"
---     intervalsOf    the intervals of a set of classes
 use mathlib.Core.Bool.{Bool, false, cond, _&&_, _||_}
 use mathlib.Core.List.{List, [], _∷_, _++_}
 use Prim.Native.Nat.{ℕ}
@@ -18,31 +8,39 @@ use Rattle.intervals.specs.Intervals.{intervals, numberOf, setOf}
 use Rattle.intervals.specs.declared.interval.Interval.{Interval}
 use Rattle.intervals.specs.declared.interval.Interval.the-variants.{Unison, MinorThird, MajorThird, DiminishedFifth, PerfectFifth, AugmentedFifth, MinorSixth, MajorSixth, DiminishedSeventh, MinorSeventh, MajorSeventh, FlatNinth, Ninth, SharpNinth, Eleventh, SharpEleventh, FlatThirteenth, Thirteenth}
 
+-- two intervals are the same one; an interval is in a list
 abbrev pub is : Interval → Interval → Bool
 is i j = eqb (numberOf i) (numberOf j)
 
+-- an interval is in a list
 unfoldable pub among : Interval → List Interval → Bool
 among i [] = false
 among i (j ∷ more) = is i j || among i more
 
+-- the members of a list that pass a test
 unfoldable pub keep : (Interval → Bool) → List Interval → List Interval
 keep test [] = []
 keep test (i ∷ more) = cond (test i) (i ∷ keep test more) (keep test more)
 
+-- the one interval, where a condition holds
 unfoldable pub only : Bool → Interval → List Interval
 only holds i = cond holds (i ∷ []) []
 
+-- "At once": the intervals of classes 0, 1, 2, 4, 5, 7, 10 and 11
 unfoldable pub atOnce : ℕ → List Interval
 atOnce s =
     only (has s 0) Unison ++ only (has s 1) FlatNinth ++ only (has s 2) Ninth ++ only (has s 4) MajorThird
     ++ only (has s 5) Eleventh ++ only (has s 7) PerfectFifth ++ only (has s 10) MinorSeventh ++ only (has s 11) MajorSeventh
 
+-- "Then in this order": what class 3 becomes
 unfoldable pub third : ℕ → List Interval
 third s = only (has s 3) (cond (among MajorThird (atOnce s)) SharpNinth MinorThird)
 
+-- what class 6 becomes
 unfoldable pub fourth : ℕ → List Interval
 fourth s = only (has s 6) (cond (among PerfectFifth (atOnce s)) SharpEleventh DiminishedFifth)
 
+-- what class 9 becomes
 unfoldable pub sixth : ℕ → List Interval
 sixth s =
     only (has s 9)
@@ -50,6 +48,7 @@ sixth s =
     (cond (among DiminishedFifth (fourth s) && among MinorThird (third s)) DiminishedSeventh
     MajorSixth))
 
+-- "Last 8"
 unfoldable pub fifth : ℕ → List Interval
 fifth s =
     only (has s 8)
@@ -57,8 +56,10 @@ fifth s =
     (cond (among MajorThird (atOnce s)) AugmentedFifth
     MinorSixth))
 
+-- the intervals of such a set: "Interval sets are visited in rising order"
 unfoldable pub intervalsIn : ℕ → List Interval
 intervalsIn set = keep (λ i. has set (numberOf i)) intervals
 
+-- the intervals of a set of classes
 unfoldable pub intervalsOf : ℕ → List Interval
 intervalsOf s = intervalsIn (setOf (atOnce s ++ third s ++ fourth s ++ sixth s ++ fifth s))

@@ -1,10 +1,5 @@
 -- What stands before the parentheses of a suffix: paper 01, "The suffix (002, 003)" ("quality with modifier, worded as 002 words
 -- them, `sus`").
---     wording         a quality's word, up to where its modifier stands
---     modified        the modifier, where the quality shows one, or what 002 writes where there is none
---     isSixth, nine   "A 9 among the adds of Maj6 or Mi6 goes in behind the first `6`"
---     heading         quality with modifier
---     sus             `sus`, or nothing
 use mathlib.Core.Bool.{Bool, cond, _&&_}
 use mathlib.Core.List.{List, [], _∷_, _++_}
 use Prim.Native.Nat.{ℕ}
@@ -21,7 +16,7 @@ use Rattle.rules.specs.Classes.{among, intervalsOf}
 use Rattle.rules.specs.Parts.{suffixQuality, isSus}
 use Rattle.rules.specs.Stack.{isOneOf, modifierOf, addsOf}
 
--- a rooted set with a third supplied is neither Power nor Bass
+-- a quality's word, up to where its modifier stands; a rooted set with a third supplied is neither Power nor Bass
 abbrev pub wording : ChordQuality → List ℕ
 wording Maj = []
 wording Maj6 = bytes "6"
@@ -37,6 +32,7 @@ wording Diminished7 = bytes "dim7"
 wording Power = []
 wording Bass = []
 
+-- how a chord writes an interval, or a text where there is none
 abbrev pub orElse : String → Numbered → List ℕ
 orElse without (Is i) = notationOf i
 orElse without Nothing = bytes without
@@ -49,21 +45,26 @@ showsModifier q = isOneOf q (Maj6 ∷ Maj7 ∷ Dominant7 ∷ Mi7 ∷ MiMaj7 ∷ 
 abbrev pub unmodified : ChordQuality → List ℕ
 unmodified q = cond (isOneOf q (Maj7 ∷ Dominant7 ∷ Mi7 ∷ MiMaj7 ∷ [])) (bytes "7") []
 
+-- the modifier, where the quality shows one, or what 002 writes where there is none
 abbrev pub modified : ChordQuality → Numbered → List ℕ
 modified q (Is i) = cond (showsModifier q) (notationOf i) []
 modified q Nothing = unmodified q
 
+-- "A 9 among the adds of Maj6 or Mi6 goes in behind the first `6`"
 abbrev pub isSixth : ChordQuality → Bool
 isSixth q = isOneOf q (Maj6 ∷ Mi6 ∷ [])
 
+-- such a 9 is among the adds
 unfoldable pub nine : ChordQuality → List Interval → Bool
 nine q adds = isSixth q && among Ninth adds
 
+-- quality with modifier
 unfoldable pub heading : ℕ → List ℕ
 heading s =
     let ints = intervalsOf s in
     let q = suffixQuality s in
     wording q ++ cond (nine q (addsOf q ints)) (bytes "9") [] ++ modified q (modifierOf q ints)
 
+-- `sus`, or nothing
 unfoldable pub sus : ℕ → List ℕ
 sus s = cond (isSus s) (bytes "sus") []

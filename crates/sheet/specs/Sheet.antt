@@ -47,6 +47,7 @@ pub record Row : Type 0 where
   pub given : List Call
   pub found : List Found
 
+-- a row of calls and what they find
 abbrev row : List Call → List Found → Row
 row given found = record { given = given; found = found }
 
@@ -54,12 +55,15 @@ row given found = record { given = given; found = found }
 abbrev written : String → Found
 written t = gives (text (bytes t))
 
+-- the sets of a listing, as its bytes
 abbrev sets : List ℕ → Found
 sets l = gives (text (inBytes l))
 
+-- the keys of a voicing
 abbrev keys : List ℕ → Found
 keys l = gives (text l)
 
+-- a quality
 abbrev is : ChordQuality → Found
 is q = says (Is q)
 

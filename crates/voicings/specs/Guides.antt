@@ -1,15 +1,5 @@
 -- Guides and tensions: paper 01, "Voicing (001)" ("Guides, lowest first, ignore the lead. Tensions, highest first, stay strictly below
 -- it; both as in 001"; "All counts of the pool are taken after the lead has left").
---     holdsAny       the pool has a tone of one of some intervals
---     sixths         those of 001's "has sixth or dim seventh"
---     sevenths       that of 001's "has minor seventh"
---     guides         the intervals whose tones are guides, and tensions those whose tones are tensions
---     guideOnce      the interval of which the first tone is a guide too: "If Minor seventh is present, major sixth is handled as
---                    tension; if sixth or dim7 is present maj7 is handled as tension"
---     tensionOnce    the intervals of which the first tone is a tension too: fifths in a small pool, the root in a very small one,
---                    and the sixth or seventh that is no guide
---     guideKeys      the keys of the guides, lowest first: those nearest to 0
---     tensionKeys    the keys of the tensions below a lead, highest first: those nearest to it
 use mathlib.Core.Bool.{Bool, false, cond, _||_}
 use mathlib.Core.List.{List, [], _∷_, _++_}
 use Prim.Native.Nat.{ℕ, suc}
@@ -22,35 +12,46 @@ use Rattle.intervals.specs.declared.interval.Interval.the-variants.{Unison, Min
 use Rattle.pool.specs.declared.pool.Tone.{Tone}
 use Rattle.keys.specs.Choice.{chosen, placed}
 
+-- the pool has a tone of one of some intervals
 unfoldable pub holdsAny : ℕ → List Tone → Bool
 holdsAny set [] = false
 holdsAny set (t ∷ more) = has set (t .interval) || holdsAny set more
 
+-- those of 001's "has sixth or dim seventh"
 unfoldable pub sixths : ℕ
 sixths = setOf (MajorSixth ∷ DiminishedSeventh ∷ [])
 
+-- that of 001's "has minor seventh"
 unfoldable pub sevenths : ℕ
 sevenths = setOf (MinorSeventh ∷ [])
 
+-- the intervals whose tones are guides
 unfoldable pub guides : ℕ
 guides = setOf (MinorThird ∷ MajorThird ∷ PerfectFourth ∷ AugmentedFourth ∷ DiminishedFifth ∷ AugmentedFifth ∷ DiminishedSeventh ∷ MinorSeventh ∷ [])
 
+-- the intervals whose tones are tensions
 unfoldable pub tensions : ℕ
 tensions = setOf (FlatNinth ∷ Ninth ∷ SharpNinth ∷ Eleventh ∷ SharpEleventh ∷ FlatThirteenth ∷ Thirteenth ∷ [])
 
+-- the interval of which the first tone is a guide too: "If Minor seventh is present, major sixth is handled as tension; if sixth or dim7 is present
+-- maj7 is handled as tension"
 abbrev pub guideOnce : Bool → Bool → List Interval
 guideOnce sixth seventh = cond sixth (cond seventh [] (MajorSixth ∷ [])) (MajorSeventh ∷ [])
 
+-- the intervals of which the first tone is a tension too: fifths in a small pool, the root in a very small one, and the sixth or seventh that is no
+-- guide
 abbrev pub tensionOnce : Bool → Bool → ℕ → List Interval
 tensionOnce sixth seventh count =
     cond (ltb count 6) (PerfectFifth ∷ DiminishedFifth ∷ []) []
     ++ cond (ltb count 3) (Unison ∷ []) []
     ++ cond sixth (cond seventh (MajorSixth ∷ []) (MajorSeventh ∷ [])) []
 
+-- the keys of the guides, lowest first: those nearest to 0
 unfoldable pub guideKeys : ℕ → ℕ → List Tone → List ℕ
 guideKeys lowest highest pool =
     placed lowest (suc highest) 0 (chosen guides (setOf (guideOnce (holdsAny sixths pool) (holdsAny sevenths pool))) pool)
 
+-- the keys of the tensions below a lead, highest first: those nearest to it
 unfoldable pub tensionKeys : ℕ → ℕ → List Tone → List ℕ
 tensionKeys lowest lead pool =
     placed lowest lead lead (chosen tensions (setOf (tensionOnce (holdsAny sixths pool) (holdsAny sevenths pool) (length pool))) pool)

@@ -1,10 +1,4 @@
 -- The voicing of a chord: paper 01, "Voicing (001)" and "Numbers given back".
---     wantedOf     the lead asked for, "or none (79)": the highest key
---     bassKeys     "bass + 36 and root + 48, or with no bass root + 36"
---     voicingOf    "Output: .. guides; tensions; lead", the pool ordered by base
---     isBass       a bass class that is none refused: "bass none excepted"
---     arePairs     each pair has a note class up to 11 and an interval up to 22
---     voicingReply what a call has to give: refusals 2, 3 and 4 in this order, or the voicing
 use mathlib.Core.Bool.{Bool, true, cond, _&&_}
 use mathlib.Core.List.{List, [], _∷_, _++_}
 use Prim.Native.Nat.{ℕ, _+_}
@@ -23,10 +17,12 @@ use Rattle.pool.specs.Order.{sorted}
 use Rattle.leads.specs.Lead.{leadOf, withoutLast}
 use Rattle.voicings.specs.Guides.{guideKeys, tensionKeys}
 
+-- the lead asked for, "or none (79)": the highest key
 abbrev pub wantedOf : ℕ → Lead → ℕ
 wantedOf highest Lead.None = highest
 wantedOf highest (Lead.Key key) = key
 
+-- "bass + 36 and root + 48, or with no bass root + 36"
 abbrev pub bassKeys : ℕ → Bass → List ℕ
 bassKeys root Bass.None = (root + 36) ∷ []
 bassKeys root (Bass.Class bass) = (bass + 36) ∷ (root + 48) ∷ []
@@ -40,18 +36,22 @@ unfoldable pub above : ℕ → ℕ → ℕ → List Tone → List ℕ
 above lowest highest wanted pool =
     let lead = leadOf lowest highest wanted pool in aboveBass lowest highest lead (withoutLast lowest highest lead pool)
 
+-- "Output: .. guides; tensions; lead", the pool ordered by base
 unfoldable pub voicingOf : ℕ → ℕ → Chord → List ℕ → List ℕ → List ℕ
 voicingOf lowest highest chord classes intervals =
     bassKeys (chord .root) (chord .bass) ++ above lowest highest (wantedOf highest (chord .lead)) (sorted (tonesOf classes intervals))
 
+-- a bass class that is none refused: "bass none excepted"
 abbrev pub isBass : Bass → Bool
 isBass Bass.None = true
 isBass (Bass.Class bass) = leb bass 11
 
+-- each pair has a note class up to 11 and an interval up to 22
 unfoldable pub arePairs : List Tone → Bool
 arePairs [] = true
 arePairs (t ∷ more) = leb (t .class) 11 && leb (t .interval) 22 && arePairs more
 
+-- what a call has to give: refusals 2, 3 and 4 in this order, or the voicing
 unfoldable pub voicingReply : ℕ → ℕ → Chord → List ℕ → List ℕ → Reply
 voicingReply lowest highest chord classes intervals =
     cond (leb (chord .root) 11 && isBass (chord .bass))

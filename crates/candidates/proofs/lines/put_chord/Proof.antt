@@ -4,6 +4,10 @@ use denote.Ref.{now}
 use borrow.Author.Needs.{needs}
 use Rattle.answer.specs.Written.{Writes}
 use Rattle.answer.proofs.Writing.{also}
+use Rattle.intervals.proofs.Rooted.{is-rooted}
+use Rattle.rules.specs.Suffix.{suffixOf}
+use Rattle.inference.proofs.Puts.{put-at}
+use Rattle.candidates.specs.Keys.{seenFrom}
 use Rattle.candidates.specs.Candidates.{chord}
 use Rattle.candidates.specs.Texts.{textOf}
 use Rattle.candidates.proofs.Texts.{text-length, put-word}
@@ -15,22 +19,22 @@ use Rattle.candidates.proofs.lines.put_chord.Tie as tie
 named : (c : tie.After-put) → Writes (now (c .before .before .before .args .out)) 0 (textOf (c .before .before .before .args .name)) (c .put .result) (c .put .last .0)
 named c = put-word _ (c .before .before .before .pre .0) _ _ _ _ (omega arith) (c .put .ensures)
 
-put-suffix-requires : tie.Need-put-suffix-requires
-put-suffix-requires c κs =
-    let p = c .before .before .before .before in
+-- and the suffix behind that
+suffixed : (c : tie.After-put-suffix)
+    → let p = c .before .before .before .before .before in
+    Writes (p .put .last .0) (p .put .result) (suffixOf (seenFrom (p .before .before .before .args .class) (p .before .before .before .args .set))) (c .put-suffix .result) (c .put-suffix .last .0)
+suffixed c =
+    let p = c .before .before .before .before .before in
     let a = p .before .before .before in
-    let long = text-length (a .args .name) (a .pre .0) in (
-      c .seen-from .ensures .1,
-      rw (c .seen-from .ensures .0) (seen-rooted (a .args .class) (a .args .set) (a .pre .3) (a .pre .1)),
-      omega (arith, named p .place, long, p .put .kept .0, a .pre .4),
-    )
+    let seen = c .before .seen-from .ensures in
+    let long = text-length (a .args .name) (a .pre .0) in
+    let small = seen .1 in
+    let odd = rw (seen .0) (seen-rooted (a .args .class) (a .args .set) (a .pre .3) (a .pre .1)) in
+    rw (seen .0) at (put-at _ _ _ (is-rooted _ (omega arith) odd) (omega (arith, named p .place, long, p .put .kept .0, a .pre .4)) _ _ (c .put-suffix .ensures))
 
 returns : tie.Need-returns
 unfolding chord
-returns c =
-    let w = c .before .before in
-    let p = w .before .before .before .before .before in
-    also (named p) (rw (w .before .seen-from .ensures .0) at (w .put-suffix .ensures))
+returns c = let w = c .before .before in also (named (w .before .before .before .before .before)) (suffixed w)
 
 pub put-chord-spec : {M : Type 1} → statement M
-put-chord-spec = tie.close (tie.spec (λ c κs. search needs) (λ c κs. search needs) put-suffix-requires (λ c. search needs) returns)
+put-chord-spec = tie.close (tie.spec (λ c κs. search needs) (λ c κs. search needs) (λ c κs. search needs) (λ c. search needs) returns)
