@@ -1,5 +1,8 @@
 -- `candidates::lines::put_chord` meets its contract: a name, and a suffix behind it.
+use mathlib.Core.Path.{_≡_, subst}
+use Prim.Native.Nat.{ℕ, _+_, _%_, _≤_}
 use native.Mathlib.Omega.{arith}
+use lib.ListN.{length}
 use denote.Ref.{now}
 use borrow.Author.Needs.{needs}
 use Rattle.answer.specs.Written.{Writes}
@@ -29,8 +32,10 @@ suffixed c =
     let seen = c .before .seen-from .ensures in
     let long = text-length (a .args .name) (a .pre .0) in
     let small = seen .1 in
-    let odd = rw (seen .0) (seen-rooted (a .args .class) (a .args .set) (a .pre .3) (a .pre .1)) in
-    rw (seen .0) at (put-at _ _ _ (is-rooted _ (omega arith) odd) (omega (arith, named p .place, long, p .put .kept .0, a .pre .4)) _ _ (c .put-suffix .ensures))
+    let odd : c .before .seen-from .result % 2 ≡ 1 = rw (seen .0) (seen-rooted (a .args .class) (a .args .set) (a .pre .3) (a .pre .1)) in
+    let room : p .put .result + 72 ≤ length (p .put .last .0) = omega (arith, named p .place, long, p .put .kept .0, a .pre .4) in
+    subst (λ (s : ℕ). Writes (p .put .last .0) (p .put .result) (suffixOf s) (c .put-suffix .result) (c .put-suffix .last .0)) (seen .0)
+    (put-at (c .before .seen-from .result) (p .put .last .0) (p .put .result) (is-rooted (c .before .seen-from .result) (omega arith) odd) room _ _ (c .put-suffix .ensures))
 
 returns : tie.Need-returns
 unfolding chord
