@@ -1,18 +1,17 @@
 -- What a caller has of a lead and the pool that it leaves.
 --     fewer       the pool has no more tones once the lead has left
---     led-is      what is left makes a pool
---     led-left    its tones, of a pool that fits
-use mathlib.Core.Path.{_≡_, _∙_}
+--     led-is      what is left of a pool that fits makes one
+--     led-left    its tones
+use mathlib.Core.Path.{_≡_}
 use mathlib.Core.Bool.{Bool, true, false, cond}
 use mathlib.Core.List.{List, [], _∷_}
 use Prim.Native.Nat.{ℕ, suc, _≤_}
 use native.Mathlib.Nat.{le-trans}
 use native.Mathlib.Omega.{arith}
 use lib.ListN.{length}
-use lib.Seq.{take-all}
 use Rattle.pool.specs.declared.pool.Tone.{Tone}
-use Rattle.pool.specs.Pool.{tonesIn, IsPool}
-use Rattle.pool.proofs.Pooled.{pool-is, pool-tones}
+use Rattle.pool.specs.Pool.{poolOf, tonesIn, IsPool}
+use Rattle.pool.proofs.Pooled.{laid-is, laid-tones, pool-is}
 use Rattle.leads.specs.Lead.{owns, isOwned, withoutLast, leadOf, ledOf}
 
 module _ (lowest highest : ℕ) where
@@ -27,12 +26,10 @@ module _ (lowest highest : ℕ) where
       by-owner false false less = omega arith
 
   module _ (wanted : ℕ) (l : List Tone) where
-    pub led-is : IsPool (ledOf lowest highest wanted l .left)
+    pub led-is : length l ≤ 16 → IsPool (ledOf lowest highest wanted l .left)
     unfolding ledOf
-    led-is = pool-is (withoutLast lowest highest (leadOf lowest highest wanted l) l)
+    led-is h = laid-is (withoutLast lowest highest (leadOf lowest highest wanted l) l) (poolOf l .tones) (le-trans (fewer (leadOf lowest highest wanted l) l) h) (pool-is l .places)
 
-    pub led-left : length l ≤ 16 → tonesIn (ledOf lowest highest wanted l .left) ≡ withoutLast lowest highest (leadOf lowest highest wanted l) l
+    pub led-left : tonesIn (ledOf lowest highest wanted l .left) ≡ withoutLast lowest highest (leadOf lowest highest wanted l) l
     unfolding ledOf
-    led-left h =
-        let left = withoutLast lowest highest (leadOf lowest highest wanted l) l in
-        pool-tones left ∙ take-all 16 left (le-trans (fewer (leadOf lowest highest wanted l) l) h)
+    led-left = laid-tones (withoutLast lowest highest (leadOf lowest highest wanted l) l) (poolOf l .tones)

@@ -6,7 +6,7 @@ use lib.Dec.{eqb}
 use Rattle.intervals.specs.Sets.{isIn}
 use Rattle.intervals.specs.Intervals.{intervals, setOf}
 use Rattle.pool.specs.declared.pool.Tone.{Tone}
-use Rattle.pool.specs.Pool.{poolOf}
+use Rattle.pool.specs.Pool.{laidOver, poolOf}
 use Rattle.keys.specs.Choice.{distance, keysOf, bestOf, chosen, without}
 use Rattle.leads.specs.declared.lead.Led.{Led}
 
@@ -50,7 +50,7 @@ withoutLast lowest highest key (t ∷ more) =
 unfoldable pub leadOf : ℕ → ℕ → ℕ → List Tone → ℕ
 leadOf lowest highest wanted pool = bestOf lowest (suc highest) wanted (chosen (unbarred pool) 0 pool) .key
 
--- the lead of an ordered pool, and the pool that it leaves
+-- the lead of an ordered pool, and the pool that it leaves: its tones, laid over those of before
 unfoldable pub ledOf : ℕ → ℕ → ℕ → List Tone → Led
 ledOf lowest highest wanted pool =
-    let lead = leadOf lowest highest wanted pool in record { key = lead; left = poolOf (withoutLast lowest highest lead pool) }
+    let lead = leadOf lowest highest wanted pool in record { key = lead; left = laidOver (withoutLast lowest highest lead pool) (poolOf pool .tones) }

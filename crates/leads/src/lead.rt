@@ -8,7 +8,6 @@ use keys::range::LIMIT;
 use keys::range::LOWEST;
 use keys::range::OCTAVE_KEY;
 use pool::order::ordered_pool;
-use pool::pool::BLANK;
 use pool::pool::Pool;
 use pool::pool::Tone;
 ghost use mathlib.Core.Path.{_≡_};
@@ -16,7 +15,7 @@ ghost use mathlib.Core.Bool.{cond};
 ghost use Prim.Native.Nat.{_≤_};
 ghost use lib.ListN.{take};
 ghost use Rattle.keys.specs.Range.{lowestKey, highestKey};
-ghost use Rattle.pool.specs.Pool.{tonesOf, tonesIn, IsPool};
+ghost use Rattle.pool.specs.Pool.{tonesOf, laidOver, tonesIn, IsPool};
 ghost use Rattle.pool.specs.Order.{sorted};
 ghost use Rattle.keys.specs.Choice.{without};
 ghost use Rattle.leads.specs.Lead.{rubs, unbarred, owns, withoutLast, leadOf, ledOf};
@@ -114,10 +113,10 @@ fn last_owner(pool: Pool, key: u8) -> usize
     count
 }
 
-// The pool without its tone at a place; where the place is past the last, the pool as it is.
+// The pool without its tone at a place: those behind it come one forward, and where the last stood it stays. Past the last tone, the pool as it is.
 fn remove(pool: Pool, place: usize) -> Pool
     requires { ⌜ IsPool pool ⌝ }
-    ensures { λ r. ⌜ IsPool r × (tonesIn r ≡ withoutAt place (tonesIn pool)) ⌝ }
+    ensures { λ r. ⌜ r ≡ laidOver (withoutAt place (tonesIn pool)) (pool .tones) ⌝ }
 {
     let count = pool.count;
     if place >= count {
@@ -130,14 +129,13 @@ fn remove(pool: Pool, place: usize) -> Pool
         tones[i] = tones[i + 1];
         i += 1;
     }
-    tones[last] = BLANK;
     Pool { tones, count: last }
 }
 
 // What is left of the pool once the lead has left it.
 fn leave(pool: Pool, lead: u8) -> Pool
     requires { ⌜ IsPool pool ⌝ }
-    ensures { λ r. ⌜ IsPool r × (tonesIn r ≡ withoutLast lowestKey highestKey lead (tonesIn pool)) ⌝ }
+    ensures { λ r. ⌜ r ≡ laidOver (withoutLast lowestKey highestKey lead (tonesIn pool)) (pool .tones) ⌝ }
 {
     remove(pool, last_owner(pool, lead))
 }

@@ -2,9 +2,10 @@
 --     fitting      how many of so many pairs fit
 --     taken-few    the first n of a list are at most n, and no more than all
 --     pooled       the pool of the tones of two ranges, of which the first are taken
+--     laid-is, laid-tones    tones laid over sixteen places make a pool, and are its tones
+--     pool-whole   a pool is its tones, laid over itself
 --     pool-tones   the tones of a pool are the first sixteen
 --     pool-is      tones as a pool make one
---     pool-whole   a pool is that of its tones
 --     ordered-tones   the tones of the pool of the first sixteen in order
 --     ordered      the pool of some tones, put in order, is that of the first sixteen in order
 use mathlib.Core.Path.{_≡_, refl, sym, ap, ap₂, _∙_}
@@ -17,7 +18,7 @@ use lib.Seq.{take-at, drop-at, take-all, length-take-le}
 use borrow.Author.Tests.{le-leb}
 use Rattle.pool.specs.declared.pool.Tone.{Tone}
 use Rattle.pool.specs.declared.pool.Pool.{Pool}
-use Rattle.pool.specs.Pool.{toneOf, tonesOf, blank, blanks, poolOf, tonesIn, IsPool}
+use Rattle.pool.specs.Pool.{toneOf, tonesOf, blank, blanks, laidOver, poolOf, tonesIn, IsPool}
 use Rattle.pool.specs.Order.{sorted, takesPart, orderedIn}
 use Rattle.pool.proofs.Sorted.{sorted-length}
 
@@ -55,36 +56,32 @@ pooled cs is n r e told =
     ap (λ (x : List Tone). record { tones = x; count = n }) (told ∙ ap (λ (l : List Tone). l ++ drop n blanks) (taken n cs is))
     ∙ ap₂ laidOut (ap (λ (k : ℕ). take k (tonesOf cs is)) e ∙ all-taken 16 (tonesOf cs is)) e
 
--- so many tones, and blanks behind them
-size : (l : List Tone) → length l ≤ 16 → length (l ++ drop (length l) blanks) ≡ 16
-size l h = simp (length-append, length-drop, length-replicate) (omega arith)
+-- tones laid over sixteen places make a pool, and are its tones
+module _ (l run : List Tone) (few : length l ≤ 16) (places : length run ≡ 16) where
+  pub laid-is : IsPool (laidOver l run)
+  laid-is = record { places = simp (length-append, length-drop) (omega arith); few = few }
+
+pub laid-tones : (l run : List Tone) → tonesIn (laidOver l run) ≡ l
+laid-tones l run = take-at l (drop (length l) run) (length l) refl
+
+pub pool-whole : (pool : Pool) → IsPool pool → pool ≡ laidOver (tonesIn pool) (pool .tones)
+pool-whole pool is =
+    let e = length-take-le (pool .count) (pool .tones) (omega (arith, is .places, is .few)) in
+    ap (λ (tones : List Tone). record { tones = tones; count = pool .count }) (sym (take-append-drop (pool .count) (pool .tones)))
+    ∙ ap (λ (n : ℕ). record { tones = tonesIn pool ++ drop n (pool .tones); count = n }) (sym e)
 
 of-few : (l : List Tone) → length l ≤ 16 → poolOf l ≡ laidOut l (length l)
 unfolding poolOf
 of-few l h = ap (λ (first : List Tone). laidOut first (length first)) (take-all 16 l h)
 
-of-first : (l : List Tone) → poolOf (take 16 l) ≡ poolOf l
-unfolding poolOf
-of-first l = ap (λ (first : List Tone). laidOut first (length first)) (take-all 16 (take 16 l) (taken-few 16 l .0))
-
-few-is : (l : List Tone) → length l ≤ 16 → IsPool (laidOut l (length l))
-few-is l h = record { places = size l h; few = h; rest = drop-at l (drop (length l) blanks) (length l) refl }
-
 module _ (l : List Tone) where
   pub pool-tones : tonesIn (poolOf l) ≡ take 16 l
   unfolding poolOf
-  pool-tones = take-at (take 16 l) _ (length (take 16 l)) refl
+  pool-tones = laid-tones (take 16 l) blanks
 
   pub pool-is : IsPool (poolOf l)
   unfolding poolOf
-  pool-is = few-is (take 16 l) (taken-few 16 l .0)
-
-pub pool-whole : (pool : Pool) → IsPool pool → pool ≡ poolOf (tonesIn pool)
-pool-whole pool is =
-    let e = length-take-le (pool .count) (pool .tones) (omega (arith, is .places, is .few)) in
-    ap (λ (tones : List Tone). record { tones = tones; count = pool .count }) (sym (take-append-drop (pool .count) (pool .tones)) ∙ ap (λ (x : List Tone). tonesIn pool ++ x) (is .rest))
-    ∙ ap (laidOut (tonesIn pool)) (sym e)
-    ∙ sym (of-few (tonesIn pool) (omega (arith, e, is .few)))
+  pool-is = laid-is (take 16 l) blanks (taken-few 16 l .0) (length-replicate 16 blank)
 
 -- the first of a run in order, the others as they were
 in-front : (l rest : List Tone) → length l ≤ 16 → orderedIn (length l) (l ++ rest) ≡ sorted l ++ rest

@@ -36,16 +36,19 @@ blank = record { base = 0; class = 0; interval = 0 }
 abbrev pub blanks : List Tone
 blanks = replicate 16 blank
 
+-- tones laid over a run: they stand at its front, and what stands behind them is as it was
+abbrev pub laidOver : List Tone → List Tone → Pool
+laidOver l run = record { tones = l ++ drop (length l) run; count = length l }
+
 -- tones as a pool: the first sixteen, and blanks behind them
 unfoldable pub poolOf : List Tone → Pool
-poolOf l = let first = take 16 l in record { tones = first ++ drop (length first) blanks; count = length first }
+poolOf l = laidOver (take 16 l) blanks
 
 -- the tones of a pool
 abbrev pub tonesIn : Pool → List Tone
 tonesIn pool = take (pool .count) (pool .tones)
 
--- what makes a pool: sixteen places, of which the first are tones and the others blank
+-- what makes a pool: sixteen places, of which the first are its tones
 pub record IsPool (pool : Pool) : Type 0 where
   pub places : length (pool .tones) ≡ 16
   pub few : pool .count ≤ 16
-  pub rest : drop (pool .count) (pool .tones) ≡ drop (pool .count) blanks

@@ -1,5 +1,8 @@
 -- `leads::lead::leave` meets its contract: the tone at the place of the last that owns the lead leaves.
-use mathlib.Core.Path.{_∙_}
+use mathlib.Core.Path.{ap, _∙_}
+use mathlib.Core.List.{List}
+use Rattle.pool.specs.declared.pool.Tone.{Tone}
+use Rattle.pool.specs.Pool.{laidOver}
 use Rattle.leads.proofs.lead.leave.Statement.{statement}
 use Rattle.leads.proofs.lead.leave.Tie as tie
 
@@ -9,4 +12,4 @@ leave-spec =
     (tie.spec
     (λ c κs. c .pre)
     (λ c κs. c .before .pre)
-    (λ c. (c .remove .ensures .0, c .remove .ensures .1 ∙ c .before .last-owner .ensures .1)))
+    (λ c. c .remove .ensures ∙ ap (λ (l : List Tone). laidOver l (c .before .before .args .pool .tones)) (c .before .last-owner .ensures .1)))

@@ -102,13 +102,13 @@ module _ (c : tie.After-nearest-lead) where
       ∙ ap₂ (λ (w : ℕ) (l : List Tone). ledOf 51 79 w (sorted l)) (c .before .wanted .ensures) (take-all 16 tones (few pairs))
 
   is-pool : IsPool (c .nearest-lead .result .left)
-  is-pool = subst (λ (x : Led). IsPool (x .left)) (sym led) (led-is 51 79 wanted (sorted tones))
+  is-pool = subst (λ (x : Led). IsPool (x .left)) (sym led) (led-is 51 79 wanted (sorted tones) (omega (arith, sorted-length tones, few pairs)))
 
   told-above : aboveBass 51 79 (c .nearest-lead .result .key) (tonesIn (c .nearest-lead .result .left)) ≡ above 51 79 wanted (sorted tones)
   unfolding ledOf above
   told-above =
       ap (λ (x : Led). aboveBass 51 79 (x .key) (tonesIn (x .left))) led
-      ∙ ap (aboveBass 51 79 (leadOf 51 79 wanted (sorted tones))) (led-left 51 79 wanted (sorted tones) (omega (arith, sorted-length tones, few pairs)))
+      ∙ ap (aboveBass 51 79 (leadOf 51 79 wanted (sorted tones))) (led-left 51 79 wanted (sorted tones))
 
 -- the voicing stands at the front of the buffer
 module _ (c : tie.After-put-above) where
