@@ -16,7 +16,7 @@ use Rattle.notes.specs.declared.note.Note.{Note}
 use Rattle.answer.specs.Written.{Writes}
 use Rattle.chordlist.specs.Replies.{lineText, Printed}
 use Rattle.chordlist.specs.Input.{lineFeed}
-use Rattle.chordlist.specs.Pieces.{mostKept, heldWith, saidWith, heldAfter}
+use Rattle.chordlist.specs.Pieces.{mostKept, heldWith, Keeps, saidWith, heldAfter}
 use Rattle.chordlist.proofs.Streams.{line-ends, line-goes-on, held-append}
 use Rattle.chordlist.proofs.Printing.{fronted, no-text, by-count}
 
@@ -28,21 +28,21 @@ module _ (names : List Note) (held : List ℕ) (byte : ℕ) where
   silent other room = rw (line-goes-on names held byte (ne-eqb _ _ other) .1) (no-text room)
 
 module _ (line : List ℕ) (n byte : ℕ) (whole : length line ≡ mostKept) where
-  pub emptied : byte ≡ lineFeed → Printed (heldWith (take n line) byte) line 0 line
+  pub emptied : byte ≡ lineFeed → Keeps byte n line 0 line
   emptied e = rw (line-ends [] (take n line) byte (eq-eqb _ _ e) .0) (no-text line)
 
   module _ (other : byte ≡ lineFeed → ⊥) where
     held-on : heldWith (take n line) byte ≡ take mostKept (take n line ++ (byte ∷ []))
     held-on = line-goes-on [] (take n line) byte (ne-eqb _ _ other) .0
 
-    pub kept : n < mostKept → Printed (heldWith (take n line) byte) line (n + 1) (set line n byte)
+    pub kept : n < mostKept → Keeps byte n line (n + 1) (set line n byte)
     kept small =
         let t = take n line ++ (byte ∷ []) in
         let long : length t ≡ n + 1 = length-append (take n line) (byte ∷ []) ∙ ap (λ (k : ℕ). k + 1) (length-take-le n line (omega arith)) in
         let stored = set-split line n byte (omega arith) ∙ sym (append-snoc (take n line) byte (drop (suc n) line)) in
         rw (held-on ∙ take-all mostKept t (omega arith)) (by-count t line (set line n byte) (n + 1) (sym long) (omega arith) (rw add-one stored))
 
-    pub full : n ≡ mostKept → Printed (heldWith (take n line) byte) line n line
+    pub full : n ≡ mostKept → Keeps byte n line n line
     full e =
         let t = take n line in
         let long : length t ≡ n = length-take-le n line (omega arith) in
@@ -56,7 +56,7 @@ module _ (entry piece : List ℕ) (n : ℕ) where
   none-taken h = record { place = sym (zero-add _ ∙ length-take-le n entry h); added = refl }
 
   pub one-taken : (i m m′ : ℕ) (line line′ : List ℕ) → i < length piece → Writes entry 0 (heldAfter (take n entry) (take i piece)) m line
-      → Printed (heldWith (take m line) (getD piece i 0)) line m′ line′ → Writes entry 0 (heldAfter (take n entry) (take (i + 1) piece)) m′ line′
+      → Keeps (getD piece i 0) m line m′ line′ → Writes entry 0 (heldAfter (take n entry) (take (i + 1) piece)) m′ line′
   unfolding heldAfter
   one-taken i m m′ line line′ h w p =
       let f = fronted p in

@@ -6,7 +6,7 @@ use Prim.Native.Nat.{ℕ}
 use lib.Dec.{eqb}
 use lib.ListN.{take}
 use Rattle.notes.specs.declared.note.Note.{Note}
-use Rattle.chordlist.specs.Replies.{lineText}
+use Rattle.chordlist.specs.Replies.{lineText, Printed}
 use Rattle.chordlist.specs.Input.{lineFeed}
 
 -- at most so many bytes of a line are kept: one more than it may have, so that a longer one shows
@@ -17,9 +17,17 @@ mostKept = 1025
 unfoldable pub heldWith : List ℕ → ℕ → List ℕ
 heldWith held byte = cond (eqb byte lineFeed) [] (take mostKept (held ++ (byte ∷ [])))
 
+-- a range that had the first `kept` bytes of a line has, with a byte more, what is kept then: n bytes in front, the others as they were
+abbrev pub Keeps : ℕ → ℕ → List ℕ → ℕ → List ℕ → Type 0
+Keeps byte kept line n left = Printed (heldWith (take kept line) byte) line n left
+
 -- what a byte has printed: LF, the answer of the line that it ends
 unfoldable pub saidWith : List Note → List ℕ → ℕ → List ℕ
 saidWith names held byte = cond (eqb byte lineFeed) (lineText names held) []
+
+-- a range has what a byte behind the first `kept` of a line has printed: n bytes in front, the others as they were
+abbrev pub Says : List Note → ℕ → ℕ → List ℕ → List ℕ → ℕ → List ℕ → Type 0
+Says names byte kept line room n left = Printed (saidWith names (take kept line) byte) room n left
 
 -- what is kept after a piece
 unfoldable pub heldAfter : List ℕ → List ℕ → List ℕ

@@ -2,10 +2,10 @@
 use crate::reply::reply;
 ghost use mathlib.Core.Path.{_≡_};
 ghost use Prim.Native.Nat.{_≤_};
-ghost use lib.ListN.{length, take};
+ghost use lib.ListN.{length};
 ghost use Rattle.names.specs.Names.{flats};
 ghost use Rattle.chordlist.specs.Replies.{Printed, mostPrinted};
-ghost use Rattle.chordlist.specs.Pieces.{mostKept, heldWith, saidWith, saidAtEnd};
+ghost use Rattle.chordlist.specs.Pieces.{mostKept, Keeps, Says, saidAtEnd};
 
 // One byte more than a line may have, so that a longer one shows.
 pub const KEPT: usize = 1025;
@@ -21,7 +21,7 @@ pub struct Taken {
 // Takes in a byte behind the first `kept` of a line: LF has the line answered, and any other byte is kept where it has room.
 pub(crate) fn take_in(byte: u8, line: &mut [u8], kept: usize, out: &mut [u8]) -> Taken
     requires { ⌜ (kept ≤ mostKept) × (length (now line) ≡ mostKept) × (mostPrinted ≤ length (now out)) ⌝ }
-    ensures { λ r. ⌜ Printed (heldWith (take kept (now (line .entry))) byte) (now (line .entry)) (r .kept) (now (line .exit)) × Printed (saidWith flats (take kept (now (line .entry))) byte) (now (out .entry)) (r .written) (now (out .exit)) ⌝ }
+    ensures { λ r. ⌜ Keeps byte kept (now (line .entry)) (r .kept) (now (line .exit)) × Says flats byte kept (now (line .entry)) (now (out .entry)) (r .written) (now (out .exit)) ⌝ }
 {
     if byte == LINE_FEED {
         let written = reply(&line[..kept], out);

@@ -6,8 +6,7 @@ use lib.Seq.{length-take-le}
 use denote.Ref.{now}
 use borrow.Author.Needs.{needs}
 use Rattle.names.specs.Names.{flats}
-use Rattle.chordlist.specs.Replies.{Printed}
-use Rattle.chordlist.specs.Pieces.{saidWith}
+use Rattle.chordlist.specs.Pieces.{Says}
 use Rattle.chordlist.proofs.Bytewise.{answered, silent, emptied, kept, full}
 use Rattle.chordlist.proofs.input.take_in.Statement.{statement}
 use Rattle.chordlist.proofs.input.take_in.Tie as tie
@@ -22,7 +21,7 @@ returns c =
 
 -- a byte that does not end the line
 module _ (c : tie.Else1) where
-  nothing-said : Printed (saidWith flats (take (c .before .before .before .args .kept) (now (c .before .before .before .args .line))) (c .before .before .before .args .byte)) (now (c .before .before .before .args .out)) 0 (now (c .before .before .before .args .out))
+  nothing-said : let a = c .before .before .before .args in Says flats (a .byte) (a .kept) (now (a .line)) (now (a .out)) 0 (now (a .out))
   nothing-said = silent flats _ _ (c .if1 .left) _
 
 pub take-in-spec : {M : Type 1} → statement M
