@@ -4,6 +4,7 @@ use mathlib.Core.Bool.{true}
 use mathlib.Core.List.{List, [], _∷_, _++_}
 use Prim.Native.Nat.{ℕ, _<_}
 use lib.ListN.{length, getD}
+use Rattle.answer.specs.Lines.{lineFeed}
 use Rattle.answer.specs.Words.{bytes}
 use Rattle.intervals.specs.Sets.{has}
 use Rattle.notes.specs.declared.note.Note.{Note}
@@ -23,7 +24,7 @@ over first = bytes "/" ++ first
 
 -- a candidate: the chord, and what stands behind it; "Each ends with LF"
 unfoldable pub line : List ℕ → ℕ → List ℕ → ℕ → List ℕ
-line name set behind class = chord name set class ++ behind ++ (10 ∷ [])
+line name set behind class = chord name set class ++ behind ++ (lineFeed ∷ [])
 
 -- the candidates of some classes, each with the same behind it
 unfoldable pub lines : List Note → ℕ → List ℕ → List ℕ → List ℕ

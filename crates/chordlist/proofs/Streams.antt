@@ -17,7 +17,8 @@ use borrow.Author.Tests.{lt-leb, leb-true, leb-false}
 use Rattle.notes.specs.declared.note.Note.{Note}
 use Rattle.chordlist.specs.Parts.{withByte, parts}
 use Rattle.chordlist.specs.Replies.{lineText}
-use Rattle.chordlist.specs.Input.{lineFeed, linesOf, inputText}
+use Rattle.answer.specs.Lines.{lineFeed}
+use Rattle.chordlist.specs.Input.{linesOf, inputText}
 use Rattle.chordlist.specs.Pieces.{mostKept, heldWith, saidWith, heldAfter, saidBy, saidAtEnd, saidByAll}
 use Rattle.chordlist.proofs.Parting.{onto, onto-part, onto-none, onto-byte}
 

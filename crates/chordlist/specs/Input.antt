@@ -2,12 +2,9 @@
 use mathlib.Core.List.{List, [], flatMap}
 use Prim.Native.Nat.{ℕ}
 use Rattle.notes.specs.declared.note.Note.{Note}
+use Rattle.answer.specs.Lines.{lineFeed}
 use Rattle.chordlist.specs.Parts.{parts}
 use Rattle.chordlist.specs.Replies.{lineText}
-
--- the byte LF
-abbrev pub lineFeed : ℕ
-lineFeed = 10
 
 -- "lines .. before LF"; "A final line without LF counts if not empty": no bytes behind the last LF are no line
 unfoldable pub linesOf : List ℕ → List (List ℕ)

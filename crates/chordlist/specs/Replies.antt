@@ -5,6 +5,7 @@ use Prim.Native.Nat.{ℕ}
 use lib.Dec.{leb}
 use lib.ListN.{length}
 use Rattle.notes.specs.declared.note.Note.{Note}
+use Rattle.answer.specs.Lines.{lineFeed}
 use Rattle.answer.specs.Words.{bytes}
 use Rattle.answer.specs.Replies.{text, Answered}
 use Rattle.answer.specs.declared.output.Output.the-variants.{Written}
@@ -13,11 +14,11 @@ use Rattle.chordlist.specs.Codes.{Line, bad, holds, codesIn}
 
 -- "It prints the candidates, then a line `.`"
 unfoldable pub codesText : List Note → List ℕ → List ℕ
-codesText names codes = candidatesOf names codes ++ bytes "." ++ (10 ∷ [])
+codesText names codes = candidatesOf names codes ++ bytes "." ++ (lineFeed ∷ [])
 
 -- "`?` alone"
 unfoldable pub badText : List ℕ
-badText = bytes "?" ++ (10 ∷ [])
+badText = bytes "?" ++ (lineFeed ∷ [])
 
 -- a line that can be read, and "A bad line"
 unfoldable pub heldText : List Note → Line → List ℕ
