@@ -5,7 +5,8 @@
 --     counted, within     what was put first: its count of bytes, and that the buffer has them
 --     stored      bytes stored one behind the other from a place on
 --     put-short   a short text's word, put at a place that has room
---     Puts        a row of words put behind one another, in a buffer that keeps its length
+--     Puts        the same of a buffer that keeps its length: no-puts, then-puts, and then-put of a word
+--     SoFar       a text on its way, part by part: so-far-none, so-far-next, so-far-all, and the room that is left
 use mathlib.Core.Path.{_≡_, refl, sym, ap, subst, _∙_}
 use mathlib.Core.List.{List, [], _++_, append-nil, append-assoc}
 use Prim.Native.Nat.{ℕ, _+_, _≤_}
@@ -56,6 +57,9 @@ pub record Puts (l₀ : List ℕ) (at : ℕ) (t : List ℕ) (r : ℕ) (l : List 
 pub no-puts : (l : List ℕ) (at : ℕ) → Puts l at [] at l
 no-puts l at = record { wrote = nothing l at; same = refl }
 
+pub then-puts : {l₀ l l′ : List ℕ} {at r r′ : ℕ} {t u : List ℕ} → Puts l₀ at t r l → Puts l r u r′ l′ → Puts l₀ at (t ++ u) r′ l′
+then-puts p q = record { wrote = also (p .wrote) (q .wrote); same = q .same ∙ p .same }
+
 -- one more: its word, the room that it has, and what the call told
 pub then-put : {l₀ l : List ℕ} {at r : ℕ} {t : List ℕ} → Puts l₀ at t r l → (u : List ℕ) → T (isShort u) → (word r′ : ℕ) (l′ : List ℕ) → word ≡ packed u
     → at + length t + 8 ≤ length l₀ → (r′ ≡ placeAfter l r word) × (l′ ≡ putAt l r word) → length l′ ≡ length l → Puts l₀ at (t ++ u) r′ l′
@@ -64,3 +68,33 @@ then-put {l₀} {l} {at} {r} {t} p u short word r′ l′ e room told kept =
       wrote = also (p .wrote) (put-short u short l r word r′ l′ e (omega (arith, p .wrote .place, p .same)) told);
       same = kept ∙ p .same;
     }
+
+-- what is written so far, with what is left to write, is the whole
+pub record SoFar (l₀ : List ℕ) (from : ℕ) (whole : List ℕ) (l : List ℕ) (at : ℕ) (left : List ℕ) : Type 0 where
+  pub done : List ℕ
+  pub puts : Puts l₀ from done at l
+  pub adds-up : done ++ left ≡ whole
+
+pub so-far-none : (l : List ℕ) (from : ℕ) (whole : List ℕ) → SoFar l from whole l from whole
+so-far-none l from whole = record { done = []; puts = no-puts l from; adds-up = refl }
+
+module _ {l₀ : List ℕ} {from : ℕ} {whole l : List ℕ} {at : ℕ} {left : List ℕ} (s : SoFar l₀ from whole l at left) where
+  -- a turn writes the front of what is left
+  pub so-far-next : {l′ : List ℕ} {r : ℕ} (here rest : List ℕ) → left ≡ here ++ rest → Puts l at here r l′ → SoFar l₀ from whole l′ r rest
+  so-far-next here rest e p =
+      record {
+        done = s .done ++ here;
+        puts = then-puts (s .puts) p;
+        adds-up = append-assoc (s .done) here rest ∙ ap (λ (x : List ℕ). s .done ++ x) (sym e) ∙ s .adds-up;
+      }
+
+  pub so-far-all : left ≡ [] → Puts l₀ from whole at l
+  so-far-all e =
+      let all : s .done ≡ whole = sym (ap (λ (x : List ℕ). s .done ++ x) e ∙ append-nil (s .done)) ∙ s .adds-up in
+      subst (λ (x : List ℕ). Puts l₀ from x at l) all (s .puts)
+
+  -- the end of the whole is as far as what is left goes
+  pub so-far-end : at + length left ≡ from + length whole
+  so-far-end =
+      let sum = sym (length-append (s .done) left) ∙ ap length (s .adds-up) in
+      omega (arith, s .puts .wrote .place)
