@@ -6,3 +6,5 @@ pub mod Tests
 pub mod Chosen
 pub mod Arms
 pub mod Determined
+pub mod Texts
+pub mod Parts

@@ -49,3 +49,7 @@ placeAfter buffer at word = cond (hasRoom buffer at) (at + long word) at
 -- the buffer with a word's eight bytes at a place
 unfoldable pub putAt : List ℕ → ℕ → ℕ → List ℕ
 putAt buffer at word = cond (hasRoom buffer at) (take at buffer ++ digits 8 word ++ drop (at + 8) buffer) buffer
+
+-- the text of a word
+unfoldable pub textOf : ℕ → List ℕ
+textOf word = take (long word) (digits 8 word)

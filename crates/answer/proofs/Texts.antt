@@ -1,0 +1,46 @@
+-- Words as the texts that they hold.
+--     text-length            as long as the word says
+--     word-long, word-text   a short text's word holds it
+--     put-word               a word that is put at a place that has room adds its text
+use mathlib.Core.Path.{_≡_, sym, ap, subst, _∙_}
+use mathlib.Core.List.{List, _++_}
+use Prim.Native.Nat.{ℕ, _+_, _≤_}
+use native.Mathlib.Omega.{arith}
+use native.Mathlib.Nat.{zero-add}
+use lib.Dec.{T}
+use lib.ListN.{length, take, drop, replicate, length-append}
+use lib.Seq.{length-take-le, take-append-le, take-append-add}
+use borrow.Author.Tests.{le-leb}
+use Rattle.answer.specs.Words.{packed, digits, long, placeAfter, putAt, textOf}
+use Rattle.answer.specs.Written.{Writes}
+use Rattle.answer.proofs.Digits.{isShort, place-text, put-text}
+
+pub text-length : (w : ℕ) → long w ≤ 8 → length (textOf w) ≡ long w
+unfolding textOf digits
+text-length w h = length-take-le (long w) (digits 8 w) (omega arith)
+
+module _ (t : List ℕ) (short : T (isShort t)) where
+  pub word-long : long (packed t) ≡ length t
+  unfolding placeAfter
+  word-long = sym (zero-add _) ∙ place-text t short (replicate 8 0) 0 (omega arith) ∙ zero-add _
+
+  pub word-text : textOf (packed t) ≡ t
+  unfolding textOf putAt digits
+  word-text = ap (λ (n : ℕ). take n (digits 8 (packed t))) word-long ∙ rw zero-add at (put-text t short (replicate 8 0) 0 (omega arith))
+
+pub put-word : (w : ℕ) → long w ≤ 8 → (l : List ℕ) (at r : ℕ) (l′ : List ℕ) → at + 8 ≤ length l
+    → (r ≡ placeAfter l at w) × (l′ ≡ putAt l at w) → Writes l at (textOf w) r l′
+unfolding placeAfter putAt textOf digits
+put-word w h l at r l′ room told =
+    let here : r ≡ at + long w = told .0 ∙ rw (le-leb _ _ room) in
+    let whole : length (take at l) ≡ at = length-take-le at l (omega arith) in
+    let within : at + long w ≤ length (take at l ++ digits 8 w) = simp length-append (omega arith) in
+    record {
+      place = here ∙ ap (λ (n : ℕ). at + n) (sym (text-length w h));
+      added =
+          rw here
+          (ap (take (at + long w)) (told .1)
+          ∙ rw (le-leb _ _ room)
+          (take-append-le (at + long w) (take at l ++ digits 8 w) (drop (at + 8) l) within
+          ∙ subst (λ (n : ℕ). take (n + long w) (take at l ++ digits 8 w) ≡ take at l ++ take (long w) (digits 8 w)) whole (take-append-add (take at l) (digits 8 w) (long w))));
+    }
