@@ -1,108 +1,75 @@
--- Laws of the classes of a list of keys.
---     Finding         what a walk over a list of keys has found before the key at i
---     gathered-old, gathered-new, fresh-old, fresh-new     one key more, by whether its class has occurred
---     pass, place     a key whose class has occurred, and one whose class has not
---     found           what it has found at the end
+-- The walk over a list of keys: what it has found of the first of them, and of one more.
+--     none-found      before the first key
+--     found-few       at most twelve are found
+--     room            a class that has not occurred has a place among twelve
+--     found-old, found-new     a key whose class has occurred, and one whose class has not
 --     bit-held        the bit of a key's class, as the code shifts it
-use mathlib.Core.Path.{_≡_, refl, sym, ap, _∙_}
-use mathlib.Core.Bool.{Bool, true, false, cond}
-use mathlib.Core.List.{List, [], _∷_, _++_, append-nil, append-assoc}
+use mathlib.Core.Path.{_≡_, refl, sym, ap, subst, _∙_}
+use mathlib.Core.Bool.{true, false}
+use mathlib.Core.List.{List, [], _∷_, _++_}
 use Prim.Native.Nat.{ℕ, _+_, _*_, _%_, _^_, _<_, _≤_}
 use native.Mathlib.Nat.{one-mul}
 use native.Mathlib.Numerals.{add-one}
 use native.Mathlib.Omega.{arith}
-use lib.Count.{ones, ones-le}
 use lib.Dec.{lit<}
-use lib.ListN.{length, take, drop, getD, set}
-use lib.Pow.{pow-lt, shl-exact}
-use lib.Seq.{drop-cons, drop-length, take-suc-set, length-take-le}
-use Rattle.intervals.specs.Sets.{has}
-use Rattle.candidates.specs.Keys.{keyClass, withClass, gathered, classSet, fresh, firsts, Finds}
-use Rattle.intervals.proofs.Members.{joined-less, joined-ones}
+use lib.ListN.{length, take, getD, set, length-append}
+use lib.Pow.{shl-exact}
+use lib.Seq.{take-suc, take-suc-set}
+use Rattle.intervals.specs.Sets.{has, isIn}
+use Rattle.candidates.specs.Keys.{keyClass, setBelow, setWhere, classSet, newBehind, firsts}
+use Rattle.candidates.specs.private.Finds.{Finds}
+use Rattle.candidates.proofs.Heard.{set-old, set-new, set-less, firsts-old, firsts-new, firsts-few}
 
-pub record Finding (keys : List ℕ) (i : ℕ) (order : List ℕ) (s count : ℕ) : Type 0 where
-  pub left : gathered s (drop i keys) ≡ classSet keys
-  pub rest : take count order ++ fresh s (drop i keys) ≡ firsts keys
-  pub small : s < 4096
-  pub size : count ≡ ones s
+pub none-found : (order : List ℕ) → Finds [] order 0 0
+unfolding classSet setWhere setBelow firsts newBehind isIn
+none-found order = record { isSet = refl; classes = refl; size = refl }
 
--- before the first key
-pub start : (keys order : List ℕ) → Finding keys 0 order 0 0
-unfolding classSet firsts ones
-start keys order = record { left = refl; rest = refl; small = lit< tt; size = refl }
+pub found-few : {keys order : List ℕ} {s count : ℕ} → Finds keys order s count → count ≤ 12
+found-few {keys} f = omega (arith, f .size, firsts-few keys)
 
--- one key, by whether its class has occurred
-module _ (s key : ℕ) (more : List ℕ) where
-  pub gathered-old : has s (keyClass key) ≡ true → gathered s (key ∷ more) ≡ gathered s more
-  unfolding gathered withClass
-  gathered-old e = ap (λ (b : Bool). gathered (cond b s (s + 2 ^ keyClass key)) more) e
+module _ (keys order : List ℕ) (i s count : ℕ) (inside : i < length keys) (f : Finds (take i keys) order s count) where
+  abbrev key : ℕ
+  key = getD keys i 0
 
-  pub gathered-new : has s (keyClass key) ≡ false → gathered s (key ∷ more) ≡ gathered (s + 2 ^ keyClass key) more
-  unfolding gathered withClass
-  gathered-new e = ap (λ (b : Bool). gathered (cond b s (s + 2 ^ keyClass key)) more) e
+  one-more : take (i + 1) keys ≡ take i keys ++ (key ∷ [])
+  one-more = ap (λ (n : ℕ). take n keys) (add-one i) ∙ take-suc keys i 0 inside
 
-  pub fresh-old : has s (keyClass key) ≡ true → fresh s (key ∷ more) ≡ fresh s more
-  unfolding fresh
-  fresh-old e = ap (λ (b : Bool). cond b (fresh s more) (keyClass key ∷ fresh (withClass (keyClass key) s) more)) e
+  pub found-old : has s (keyClass key) ≡ true → Finds (take (i + 1) keys) order s count
+  found-old old =
+      let there = ap (λ (x : ℕ). has x (keyClass key)) (sym (f .isSet)) ∙ old in
+      let same = firsts-old key (take i keys) there in
+      subst (λ (l : List ℕ). Finds l order s count) (sym one-more)
+      record { isSet = f .isSet ∙ sym (set-old key (take i keys) there); classes = f .classes ∙ sym same; size = f .size ∙ ap length (sym same) }
 
-  pub fresh-new : has s (keyClass key) ≡ false → fresh s (key ∷ more) ≡ keyClass key ∷ fresh (s + 2 ^ keyClass key) more
-  unfolding fresh withClass
-  fresh-new e =
-      ap (λ (b : Bool). cond b (fresh s more) (keyClass key ∷ fresh (withClass (keyClass key) s) more)) e
-      ∙ ap (λ (b : Bool). keyClass key ∷ fresh (cond b s (s + 2 ^ keyClass key)) more) e
+  module _ (absent : has s (keyClass key) ≡ false) where
+    not-there : has (classSet (take i keys)) (keyClass key) ≡ false
+    not-there = ap (λ (x : ℕ). has x (keyClass key)) (sym (f .isSet)) ∙ absent
 
-module _ (keys order : List ℕ) (i s count : ℕ) (inside : i < length keys) (f : Finding keys i order s count) where
-  split : drop i keys ≡ getD keys i 0 ∷ drop (i + 1) keys
-  split = drop-cons keys i 0 inside ∙ ap (λ (n : ℕ). getD keys i 0 ∷ drop n keys) (sym (add-one i))
+    longer : count + 1 ≡ length (firsts (take i keys ++ (key ∷ [])))
+    longer =
+        ap (λ (n : ℕ). n + 1) (f .size) ∙ sym (length-append (firsts (take i keys)) (keyClass key ∷ []))
+        ∙ ap length (sym (firsts-new key (take i keys) not-there))
 
-  pub pass : has s (keyClass (getD keys i 0)) ≡ true → Finding keys (i + 1) order s count
-  pass old =
-      record {
-        left = sym (ap (gathered s) split ∙ gathered-old s (getD keys i 0) (drop (i + 1) keys) old) ∙ f .left;
-        rest = ap (λ (x : List ℕ). take count order ++ x) (sym (ap (fresh s) split ∙ fresh-old s (getD keys i 0) (drop (i + 1) keys) old)) ∙ f .rest;
-        small = f .small;
-        size = f .size;
-      }
+    joined-set : s + 2 ^ keyClass key ≡ classSet (take i keys ++ (key ∷ []))
+    joined-set = ap (λ (x : ℕ). x + 2 ^ keyClass key) (f .isSet) ∙ sym (set-new key (take i keys) not-there)
 
-  module _ (absent : has s (keyClass (getD keys i 0)) ≡ false) where
-    pub less : s + 2 ^ keyClass (getD keys i 0) < 4096
-    less =
-        let below : keyClass (getD keys i 0) < 12 = omega arith in
-        joined-less s (keyClass (getD keys i 0)) absent 12 (f .small) (pow-lt below)
+    pub less : s + 2 ^ keyClass key < 4096
+    less = rw joined-set (set-less (take i keys ++ (key ∷ [])))
 
     pub room : count < 12
-    room = omega (arith, f .size, joined-ones s (keyClass (getD keys i 0)) absent, ones-le 12 (s + 2 ^ keyClass (getD keys i 0)) less)
+    room = omega (arith, longer, firsts-few (take i keys ++ (key ∷ [])))
 
-    pub place : 12 ≤ length order → Finding keys (i + 1) (set order count (keyClass (getD keys i 0))) (s + 2 ^ keyClass (getD keys i 0)) (count + 1)
-    place long =
-        let within : count < length order = omega (arith, room) in
-        let c = keyClass (getD keys i 0) in
-        let later = fresh (s + 2 ^ c) (drop (i + 1) keys) in
+    pub found-new : 12 ≤ length order → Finds (take (i + 1) keys) (set order count (keyClass key)) (s + 2 ^ keyClass key) (count + 1)
+    found-new long =
+        subst (λ (l : List ℕ). Finds l (set order count (keyClass key)) (s + 2 ^ keyClass key) (count + 1)) (sym one-more)
         record {
-          left = sym (ap (gathered s) split ∙ gathered-new s (getD keys i 0) (drop (i + 1) keys) absent) ∙ f .left;
-          rest =
-              ap (λ (n : ℕ). take n (set order count c) ++ later) (add-one count)
-              ∙ ap (λ (x : List ℕ). x ++ later) (take-suc-set order count c within)
-              ∙ append-assoc (take count order) (c ∷ []) later
-              ∙ ap (λ (x : List ℕ). take count order ++ x) (sym (ap (fresh s) split ∙ fresh-new s (getD keys i 0) (drop (i + 1) keys) absent))
-              ∙ f .rest;
-          small = less;
-          size = omega (arith, f .size, joined-ones s c absent);
+          isSet = joined-set;
+          classes =
+              ap (λ (n : ℕ). take n (set order count (keyClass key))) (add-one count)
+              ∙ take-suc-set order count (keyClass key) (omega (arith, room))
+              ∙ ap (λ (l : List ℕ). l ++ (keyClass key ∷ [])) (f .classes) ∙ sym (firsts-new key (take i keys) not-there);
+          size = longer;
         }
-
-pub found : (keys order : List ℕ) (s count : ℕ) → 12 ≤ length order → Finding keys (length keys) order s count → Finds keys order s count
-unfolding gathered fresh
-found keys order s count long f =
-    let none : drop (length keys) keys ≡ [] = drop-length keys in
-    let most : count ≤ 12 = omega (arith, f .size, ones-le 12 s (f .small)) in
-    let classes : take count order ≡ firsts keys = sym (append-nil (take count order)) ∙ ap (λ (x : List ℕ). take count order ++ fresh s x) (sym none) ∙ f .rest in
-    record {
-      isSet = ap (gathered s) (sym none) ∙ f .left;
-      size = sym (ap length (sym classes) ∙ length-take-le count order (omega arith));
-      classes = classes;
-      small = f .small;
-      atMostTwelve = most;
-    }
 
 pub bit-held : (key : ℕ) → 1 * 2 ^ keyClass key % 2 ^ 32 ≡ 2 ^ keyClass key
 bit-held key = shl-exact {a = 1} 1 (keyClass key) 32 (lit< tt) (omega arith) ∙ one-mul (2 ^ keyClass key)

@@ -1,4 +1,4 @@
--- Laws of the listing that its readers rely on, for any table of brief names.
+-- Laws of the candidates that their readers rely on, for any table of brief names.
 use mathlib.Core.Path.{_≡_, refl, sym, ap, ap₂, _∙_}
 use mathlib.Core.Bool.{true}
 use mathlib.Core.List.{List, [], _∷_}
@@ -9,16 +9,17 @@ use lib.ListN.{length}
 use Rattle.answer.specs.Words.{bytes}
 use Rattle.answer.specs.Lines.{lineFeeds}
 use Rattle.answer.proofs.Feeds.{feeds-append}
-use Rattle.intervals.specs.Sets.{has, classCount}
+use Rattle.intervals.specs.Sets.{has, isIn, classCount}
 use Rattle.notes.specs.declared.note.Note.{Note}
 use Rattle.names.specs.Names.{nameOf}
 use Rattle.names.proofs.Named.{areBrief, name-line}
 use Rattle.rules.proofs.Short.{suffix-line}
-use Rattle.candidates.specs.Keys.{seenFrom, classSet, firsts}
-use Rattle.candidates.specs.Candidates.{Classes, chord, over, line, lines, listing, candidatesOf}
+use Rattle.candidates.specs.Keys.{seenFrom, setWhere, classSet, firsts}
+use Rattle.candidates.specs.Candidates.{chord, over, line, lines, allLines, candidatesOf}
+use Rattle.candidates.specs.private.Finds.{Classes}
 use Rattle.intervals.proofs.Counted.{class-count}
 use Rattle.candidates.proofs.Heard.{firsts-classes, set-count, set-less, set-of-firsts}
-use Rattle.candidates.proofs.Turned.{seen-less, seen-rooted}
+use Rattle.candidates.proofs.Turned.{seen-less, seen-odd}
 
 over-line : (first : List ℕ) → lineFeeds first ≡ 0 → lineFeeds (over first) ≡ 0
 unfolding over bytes lineFeeds
@@ -27,10 +28,10 @@ over-line first none = omega arith
 -- a line has one end
 line-feed : (name : List ℕ) → lineFeeds name ≡ 0 → (set class : ℕ) → class < 12 → has set class ≡ true → (behind : List ℕ) → lineFeeds behind ≡ 0
     → lineFeeds (line name set behind class) ≡ 1
-unfolding line chord seenFrom lineFeeds
+unfolding line chord lineFeeds
 line-feed name named set class small heard behind none =
     simp feeds-append
-    (omega (arith, suffix-line (seenFrom class set) (seen-less 12 class set) (seen-rooted class set heard small)))
+    (omega (arith, suffix-line (seenFrom class set) (seen-less class set) (seen-odd class set heard small)))
 
 module _ (table : List Note) (brief : T (areBrief table)) where
   lines-feeds : (set : ℕ) (behind : List ℕ) → lineFeeds behind ≡ 0 → (classes : List ℕ) → Classes set classes → lineFeeds (lines table set behind classes) ≡ length classes
@@ -42,10 +43,10 @@ module _ (table : List Note) (brief : T (areBrief table)) where
       feeds-append (line (nameOf table c) set behind c) (lines table set behind more)
       ∙ omega (arith, rest, line-feed (nameOf table c) (name-line table brief c) set c (first .0) (first .1) behind none)
 
-  listing-feeds : (set : ℕ) (classes : List ℕ) → Classes set classes → lineFeeds (listing table set classes) ≡ length classes
-  unfolding listing lineFeeds
-  listing-feeds set [] k = refl
-  listing-feeds set (first ∷ rest) k =
+  all-feeds : (set : ℕ) (classes : List ℕ) → Classes set classes → lineFeeds (allLines table set classes) ≡ length classes
+  unfolding allLines lineFeeds
+  all-feeds set [] k = refl
+  all-feeds set (first ∷ rest) k =
       let is = k 0 (omega arith) in
       let named = name-line table brief first in
       let later = lines-feeds set (over (nameOf table first)) (over-line (nameOf table first) named) rest (λ i l. k (suc i) (suc-le-suc l)) in
@@ -56,10 +57,11 @@ module _ (table : List Note) (brief : T (areBrief table)) where
   pub lines-counted : (keys : List ℕ) → lineFeeds (candidatesOf table keys) ≡ classCount (classSet keys)
   unfolding candidatesOf
   lines-counted keys =
-      listing-feeds (classSet keys) (firsts keys) (firsts-classes keys)
+      all-feeds (classSet keys) (firsts keys) (firsts-classes keys)
       ∙ sym (set-count keys) ∙ class-count (classSet keys) (set-less keys)
 
 -- lists whose classes occur first in the same order have the same candidates
-pub same-listing : (table : List Note) (keys keys′ : List ℕ) → firsts keys ≡ firsts keys′ → candidatesOf table keys ≡ candidatesOf table keys′
+pub same-candidates : (table : List Note) (keys keys′ : List ℕ) → firsts keys ≡ firsts keys′ → candidatesOf table keys ≡ candidatesOf table keys′
 unfolding candidatesOf
-same-listing table keys keys′ e = ap₂ (listing table) (sym (set-of-firsts keys) ∙ ap classSet e ∙ set-of-firsts keys′) e
+same-candidates table keys keys′ e =
+    ap₂ (allLines table) (set-of-firsts keys ∙ ap (λ (l : List ℕ). setWhere (λ c. isIn c l)) e ∙ sym (set-of-firsts keys′)) e

@@ -1,8 +1,7 @@
-pub mod Firsts
+pub mod Wheres
 pub mod Turned
 pub mod Heard
-pub mod Parts
-pub mod Texts
+pub mod Firsts
 pub mod Listed
 pub mod Laws
 pub mod Determined

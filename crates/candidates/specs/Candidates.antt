@@ -1,12 +1,8 @@
 -- Candidates: paper 01, "Candidates", for any table of the classes as notes.
-use mathlib.Core.Path.{_≡_}
-use mathlib.Core.Bool.{true}
 use mathlib.Core.List.{List, [], _∷_, _++_}
-use Prim.Native.Nat.{ℕ, _<_}
-use lib.ListN.{length, getD}
+use Prim.Native.Nat.{ℕ}
 use Rattle.answer.specs.Lines.{lineFeed}
 use Rattle.answer.specs.Words.{bytes}
-use Rattle.intervals.specs.Sets.{has}
 use Rattle.notes.specs.declared.note.Note.{Note}
 use Rattle.names.specs.Names.{nameOf}
 -- the code's table, passed on to those that cite the candidates
@@ -32,14 +28,10 @@ lines table set behind [] = []
 lines table set behind (class ∷ more) = line (nameOf table class) set behind class ++ lines table set behind more
 
 -- the candidates of the classes of a list: over the first, "unless it is the first code"
-unfoldable pub listing : List Note → ℕ → List ℕ → List ℕ
-listing table set [] = []
-listing table set (first ∷ rest) = line (nameOf table first) set [] first ++ lines table set (over (nameOf table first)) rest
+unfoldable pub allLines : List Note → ℕ → List ℕ → List ℕ
+allLines table set [] = []
+allLines table set (first ∷ rest) = line (nameOf table first) set [] first ++ lines table set (over (nameOf table first)) rest
 
 -- the candidates of a list of keys: "For each code in list order whose class hasn't occurred"
 unfoldable pub candidatesOf : List Note → List ℕ → List ℕ
-candidatesOf table keys = listing table (classSet keys) (firsts keys)
-
--- each byte of a run is a class of a set
-abbrev pub Classes : ℕ → List ℕ → Type 0
-Classes set order = (i : ℕ) → i < length order → (getD order i 0 < 12) × (has set (getD order i 0) ≡ true)
+candidatesOf table keys = allLines table (classSet keys) (firsts keys)

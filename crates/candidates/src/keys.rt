@@ -2,7 +2,8 @@
 ghost use mathlib.Core.Path.{_≡_};
 ghost use Prim.Native.Nat.{_%_, _<_, _≤_};
 ghost use lib.ListN.{length, take};
-ghost use Rattle.candidates.specs.Keys.{Finds, seenFrom};
+ghost use Rattle.candidates.specs.Keys.{seenFrom};
+ghost use Rattle.candidates.specs.private.Finds.{Finds};
 
 const CLASSES: u32 = 12;
 
@@ -46,7 +47,7 @@ fn in_octave(class: u32) -> u32
 // A set seen from one of its classes, by a walk over the twelve: its class k is the one k above the root.
 pub(crate) fn seen_from(root: u32, set: u32) -> u32
     requires { ⌜ (root < 12) × (set < 4096) ⌝ }
-    ensures { λ r. ⌜ (r ≡ seenFrom root set) × (r < 4096) ⌝ }
+    ensures { λ r. ⌜ r ≡ seenFrom root set ⌝ }
 {
     let mut seen: u32 = 0;
     let mut k: u32 = 0;

@@ -14,11 +14,11 @@ ghost use lib.ListN.{length};
 ghost use Rattle.answer.specs.Replies.{text, Answered};
 ghost use Rattle.intervals.specs.Sets.{has, classCount};
 ghost use Rattle.answer.specs.Written.{Writes};
-ghost use Rattle.answer.specs.Words.{long};
+ghost use Rattle.answer.specs.Words.{long, textOf};
 ghost use Rattle.names.specs.Names.{flats};
 ghost use Rattle.candidates.specs.Keys.{classSet};
-ghost use Rattle.candidates.specs.Candidates.{Classes, chord, over, line, listing, candidatesOf};
-ghost use Rattle.candidates.specs.Texts.{textOf};
+ghost use Rattle.candidates.specs.Candidates.{chord, over, line, allLines, candidatesOf};
+ghost use Rattle.candidates.specs.private.Finds.{Classes};
 
 // A slash, and the end of a line.
 const SLASH: u64 = 0x010000000000002f;
@@ -65,7 +65,7 @@ fn put_next(out: &mut [u8], name: u64, class: u32, first: u64, set: u32) -> usiz
 // The candidates of the classes of a set, in their order: each goes into the part of `out` that is still free.
 fn put_lines(out: &mut [u8], order: &[u8], set: u32) -> usize
     requires { ⌜ (set < 4096) × (length (now order) ≤ 12) × Classes set (now order) × (850 ≤ length (now out)) ⌝ }
-    ensures { λ r. ⌜ Writes (now (out .entry)) 0 (listing flats set (now (order .entry))) r (now (out .exit)) ⌝ }
+    ensures { λ r. ⌜ Writes (now (out .entry)) 0 (allLines flats set (now (order .entry))) r (now (out .exit)) ⌝ }
 {
     if order.len() == 0 {
         return 0;

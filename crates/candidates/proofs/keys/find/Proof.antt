@@ -1,20 +1,23 @@
--- `candidates::keys::find` meets its contract. The loop's invariant: what has been found before the key at `i`.
+-- `candidates::keys::find` meets its contract. The loop's invariant: what the contract says, of the keys before the one at `i`.
 use mathlib.Core.Path.{_≡_, refl, ap, subst, _∙_}
 use mathlib.Core.Bool.{false}
+use mathlib.Core.List.{List}
 use mathlib.Core.Logic.{⊎-elim}
 use Prim.Native.Nat.{ℕ, _-_, _<_, _≤_}
 use native.Mathlib.Omega.{arith}
-use lib.ListN.{length, getD, set, length-set}
+use lib.ListN.{length, take, getD, set, length-set}
+use lib.Seq.{take-length}
 use denote.Ref.{now}
 use Rattle.intervals.specs.Sets.{has}
 use Rattle.candidates.specs.Keys.{keyClass}
+use Rattle.candidates.specs.private.Finds.{Finds}
 use Rattle.intervals.proofs.Members.{present, missing}
-use Rattle.candidates.proofs.Firsts.{Finding, start, pass, less, room, place, found, bit-held}
+use Rattle.candidates.proofs.Firsts.{none-found, found-old, less, room, found-new, bit-held}
 use Rattle.candidates.proofs.keys.find.Statement.{statement}
 use Rattle.candidates.proofs.keys.find.Tie as tie
 
 abbrev Inv-loop : tie.InvT-loop
-Inv-loop keys order₀ set₀ count₀ i₀ order set count i = (i ≤ length keys) × Finding keys i order set count × (length order ≡ length order₀)
+Inv-loop keys order₀ set₀ count₀ i₀ order set count i = (i ≤ length keys) × Finds (take i keys) order set count × (length order ≡ length order₀)
 
 abbrev μ-loop : tie.MeasureT-loop
 μ-loop keys order₀ set₀ count₀ i₀ order set count i = length keys - i
@@ -42,12 +45,12 @@ loop-again c =
     ⊎-elim
     (λ w. (
       omega arith,
-      rw (w .1, w .2, w .3, bit-held (getD keys (h .i) 0)) (place keys (h .order) (h .i) (h .set) (h .count) (omega arith) (h .inv .1) (missing _ _ (w .0 .taken)) (omega arith)),
+      rw (w .1, w .2, w .3, bit-held (getD keys (h .i) 0)) (found-new keys (h .order) (h .i) (h .set) (h .count) (omega arith) (h .inv .1) (missing _ _ (w .0 .taken)) (omega arith)),
       ap length (w .1) ∙ simp length-set (h .inv .2),
     ))
     (λ w. (
       omega arith,
-      rw (w .1, w .2, w .3) (pass keys (h .order) (h .i) (h .set) (h .count) (omega arith) (h .inv .1) (present _ _ (w .0 .left))),
+      rw (w .1, w .2, w .3) (found-old keys (h .order) (h .i) (h .set) (h .count) (omega arith) (h .inv .1) (present _ _ (w .0 .left))),
       ap length (w .1) ∙ h .inv .2,
     ))
     (c .if1 .came)
@@ -56,8 +59,8 @@ returns : tie.Need-returns Inv-loop μ-loop
 returns c =
     let h = c .before .loop in
     let keys = now (c .before .before .args .keys) in
-    let end : h .i ≡ length keys = omega arith in
-    found keys (h .order) (h .set) (h .count) (omega arith) (subst (λ (n : ℕ). Finding keys n (h .order) (h .set) (h .count)) end (h .inv .1))
+    let all : take (h .i) keys ≡ keys = ap (λ (n : ℕ). take n keys) (let end : h .i ≡ length keys = omega arith in end) ∙ take-length keys in
+    subst (λ (l : List ℕ). Finds l (h .order) (h .set) (h .count)) all (h .inv .1)
 
 pub find-spec : {M : Type 1} → statement M
 find-spec =
@@ -65,7 +68,7 @@ find-spec =
     (tie.spec
     Inv-loop
     μ-loop
-    (λ c. (omega arith, start _ _, refl))
+    (λ c. (omega arith, none-found _, refl))
     (λ c. omega arith)
     (λ c. omega arith)
     (λ c. omega arith)

@@ -4,8 +4,9 @@ use Prim.Native.Nat.{ℕ, _+_, _-_, _*_, _/_, _%_, _^_, _<_, _≤_}
 use native.Mathlib.Nat.{lt-of-lt-of-le}
 use native.Mathlib.Omega.{arith}
 use lib.Pow.{pow-mono}
-use Rattle.candidates.specs.Keys.{seenBelow, seenFrom}
-use Rattle.candidates.proofs.Turned.{seen-next, seen-less}
+use Rattle.candidates.specs.Keys.{setBelow, setWhere, seenFrom}
+use Rattle.candidates.proofs.Wheres.{below-less}
+use Rattle.candidates.proofs.Turned.{seenBelow, seen-next}
 use Rattle.candidates.proofs.keys.seen_from.Statement.{statement}
 use Rattle.candidates.proofs.keys.seen_from.Tie as tie
 
@@ -16,12 +17,11 @@ abbrev μ-loop : tie.MeasureT-loop
 μ-loop root set seen₀ k₀ seen k = 12 - k
 
 returns : tie.Need-returns Inv-loop μ-loop
-unfolding seenFrom
+unfolding seenFrom setWhere
 returns c =
     let h = c .before .loop in
     let end : h .k ≡ 12 = omega arith in
-    let all-seen = h .inv .1 ∙ ap (λ (k : ℕ). seenBelow k (c .before .before .args .root) (c .before .before .args .set)) end in
-    (all-seen, rw all-seen (seen-less 12 (c .before .before .args .root) (c .before .before .args .set)))
+    h .inv .1 ∙ ap (λ (k : ℕ). seenBelow k (c .before .before .args .root) (c .before .before .args .set)) end
 
 -- a turn's sum
 module _ (root s seen k class : ℕ) (h : k < 12) (e : seen ≡ seenBelow k root s) (is : class ≡ (root + k) % 12) where
@@ -31,10 +31,10 @@ module _ (root s seen k class : ℕ) (h : k < 12) (e : seen ≡ seenBelow k root
   small : seen + s / 2 ^ class % 2 * 2 ^ k % 2 ^ 32 < 2 ^ 12
   small =
       let most : k + 1 ≤ 12 = omega arith in
-      rw next (lt-of-lt-of-le (seen-less (k + 1) root s) (pow-mono most))
+      rw next (lt-of-lt-of-le (below-less (k + 1) _) (pow-mono most))
 
 pub seen-from-spec : {M : Type 1} → statement M
-unfolding seenBelow seenFrom
+unfolding setBelow
 seen-from-spec =
     tie.close
     (tie.spec

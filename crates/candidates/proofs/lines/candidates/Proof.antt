@@ -9,9 +9,10 @@ use borrow.Author.Needs.{needs}
 use Rattle.answer.specs.Replies.{text, Answered}
 use Rattle.answer.proofs.Writing.{counted, within}
 use Rattle.names.specs.Names.{flats}
-use Rattle.candidates.specs.Keys.{Finds}
-use Rattle.candidates.specs.Candidates.{Classes, listing, candidatesOf}
-use Rattle.candidates.proofs.Heard.{firsts-classes}
+use Rattle.candidates.specs.Candidates.{allLines, candidatesOf}
+use Rattle.candidates.specs.private.Finds.{Finds, Classes}
+use Rattle.candidates.proofs.Heard.{set-less, firsts-classes, firsts-few}
+use Rattle.candidates.proofs.Firsts.{found-few}
 use Rattle.candidates.proofs.lines.candidates.Statement.{statement}
 use Rattle.candidates.proofs.lines.candidates.Tie as tie
 
@@ -22,15 +23,15 @@ found-classes keys order set count f = rw (f .classes, f .isSet) (firsts-classes
 put-lines-requires : tie.Need-put-lines-requires
 put-lines-requires c κs =
     let f = c .before .before .before .find .ensures in
-    (f .small, omega (arith, ap length (f .classes), f .size, f .atMostTwelve), found-classes _ _ _ _ f, search needs)
+    (rw (f .isSet) (set-less _), rw (f .classes) (firsts-few _), found-classes _ _ _ _ f, search needs)
 
--- where the listing stands
+-- where the candidates stand
 stands : (c : tie.After-put-lines)
     → take (c .put-lines .result) (c .put-lines .last .0) ≡ candidatesOf flats (now (c .before .before .before .before .before .before .before .before .args .keys))
 unfolding candidatesOf
 stands c =
     let f = c .before .before .before .before .find .ensures in
-    c .put-lines .ensures .added ∙ ap₂ (listing flats) (f .isSet) (f .classes)
+    c .put-lines .ensures .added ∙ ap₂ (allLines flats) (f .isSet) (f .classes)
 
 returns : tie.Need-returns
 returns c =
@@ -46,7 +47,7 @@ candidates-spec =
     (λ c. search needs)
     (λ c κs. search needs)
     (λ c. search needs)
-    (λ c. search needs)
+    (λ c. omega (arith, found-few (c .before .before .find .ensures)))
     (λ c. let f = c .before .before .before .find .ensures in f .size ∙ ap length (sym (f .classes)))
     put-lines-requires
     (λ c. within (c .before .put-lines .ensures))

@@ -2,22 +2,23 @@
 use mathlib.Core.Path.{_≡_, refl, ap, ap₂, subst, _∙_}
 use mathlib.Core.Bool.{true}
 use mathlib.Core.List.{List, []}
-use Prim.Native.Nat.{ℕ, _+_, _-_, _<_, _≤_}
+use Prim.Native.Nat.{ℕ, _+_, _-_, _*_, _<_, _≤_}
 use native.Mathlib.Omega.{arith}
 use lib.Dec.{T}
-use lib.ListN.{length}
+use lib.ListN.{length, drop}
+use lib.Seq.{drop-length}
 use denote.Ref.{now}
 use borrow.Author.Needs.{needs}
-use borrow.Rule.Slice.PartMut.{putMid, same-len-mid}
+use borrow.Rule.Slice.PartMut.{putMid}
 use Rattle.intervals.specs.Sets.{has}
-use Rattle.answer.proofs.Writing.{same-text}
-use Rattle.names.specs.Names.{flats}
-use Rattle.names.proofs.Named.{areBrief, flats-brief}
+use Rattle.answer.specs.Written.{Writes}
+use Rattle.answer.proofs.Parts.{part-puts, part-long}
+use Rattle.answer.proofs.Writing.{also, same-text, Puts, SoFar, so-far-none, so-far-next, so-far-all}
+use Rattle.names.specs.Names.{flats, nameOf}
+use Rattle.names.proofs.Named.{areBrief, flats-brief, name-length}
 use Rattle.notes.specs.declared.note.Note.{Note}
-use Rattle.candidates.specs.Candidates.{over, line}
-use Rattle.candidates.proofs.Parts.{part-long}
-use Rattle.candidates.proofs.Texts.{name-long, name-text}
-use Rattle.candidates.proofs.Listed.{Listed, listed-first, listed-next, all-listed, none-listed}
+use Rattle.candidates.specs.Candidates.{over, line, lines}
+use Rattle.candidates.proofs.Listed.{name-long, name-text, line-length, over-length, one-line, all-lines, none-listed}
 use Rattle.candidates.proofs.lines.put_lines.Statement.{statement}
 use Rattle.candidates.proofs.lines.put_lines.Tie as tie
 
@@ -28,8 +29,13 @@ table = flats
 brief : T (areBrief table)
 brief = flats-brief
 
+-- the lines of the classes from the one at i on
+abbrev left : ℕ → ℕ → List ℕ → ℕ → List ℕ
+left set root order i = lines table set (over (nameOf table root)) (drop i order)
+
 abbrev Inv-loop : tie.InvT-loop
-Inv-loop out₀ order set root first used₀ i₀ out used i = Listed table set root order out used i × (length out ≡ length out₀)
+Inv-loop out₀ order set root first used₀ i₀ out used i =
+    SoFar out₀ used₀ (left set root order 1) out used (left set root order i) × (used ≤ 70 * i) × (i ≤ length order)
 
 abbrev μ-loop : tie.MeasureT-loop
 μ-loop out₀ order set root first used₀ i₀ out used i = length order - i
@@ -56,20 +62,27 @@ roomy c =
     let l = c .before in
     let f = l .before .before .before in
     let s = f .before .before .before .before .before .before .before .before in
-    omega (arith, l .loop .inv .0 .short, l .loop .inv .1, f .put-first .kept .0, s .pre .1, s .pre .3)
+    omega (arith, l .loop .inv .1, l .loop .inv .0 .puts .same, f .put-first .kept .0, s .pre .1, s .pre .3)
+
+-- the first line
+wrote-first : (c : tie.After-put-first Inv-loop μ-loop)
+    → let w = c .before .before .before in
+    let s = w .before .before .before .before .before in
+    Writes (now (s .args .out)) 0 (line (nameOf table (w .wide .result)) (s .args .set) [] (w .wide .result)) (c .put-first .result) (c .put-first .last .0)
+wrote-first c =
+    let n = c .before .before in
+    let w = n .before in
+    let s = w .before .before .before .before .before in
+    same-text (ap (λ (t : List ℕ). line t (s .args .set) [] (w .wide .result)) (name-text table brief (w .wide .result) _ (n .class-name .ensures))) (c .put-first .ensures)
 
 loop-holds : tie.Need-loop-holds Inv-loop μ-loop
 loop-holds c =
     let f = c .before .before in
-    let n = f .before .before in
-    let w = n .before in
+    let w = f .before .before .before in
     let s = w .before .before .before .before .before in
     let k = first-is w in
-    let named = name-text table brief (w .wide .result) _ (n .class-name .ensures) in (
-      listed-first table brief (s .args .set) (w .wide .result) _ (now (s .args .order)) _ _ (omega arith) (w .wide .ensures) (k .0) (k .1)
-          (same-text (ap (λ (t : List ℕ). line t (s .args .set) [] (w .wide .result)) named) (f .put-first .ensures)),
-      refl,
-    )
+    let short = line-length (nameOf table (w .wide .result)) (name-length table brief _) (s .args .set) (w .wide .result) (k .0) (k .1) [] (omega arith) in
+    (so-far-none _ _ _, omega (arith, short, wrote-first f .place), omega arith)
 
 put-next-requires : tie.Need-put-next-requires Inv-loop μ-loop
 put-next-requires c κs =
@@ -86,41 +99,57 @@ put-next-requires c κs =
       name-long table brief (first .before .wide .result) _ (first .class-name .ensures),
     )
 
--- one line more
-listed : (c : tie.After-put-next Inv-loop μ-loop)
-    → (let l = c .before .before .before .before .before .before in
+-- one line more, in the part of the buffer that is still free
+wrote-next : (c : tie.After-put-next Inv-loop μ-loop)
+    → let w = c .before .before .before in
+    let l = w .before .before .before in
     let root = l .before .before .before .before .before .before in
-    Listed table (root .before .before .before .before .before .args .set) (root .wide .result) (now (root .before .before .before .before .before .args .order))
-    (putMid (l .loop .used) (length (l .loop .out) - l .loop .used) (l .loop .out) (c .put-next .last .0)) (l .loop .used + c .put-next .result) (l .loop .i + 1))
-listed c =
+    let s = root .before .before .before .before .before in
+    Puts (l .loop .out) (l .loop .used) (line (nameOf table (w .wide2 .result)) (s .args .set) (over (nameOf table (root .wide .result))) (w .wide2 .result))
+    (l .loop .used + c .put-next .result) (putMid (l .loop .used) (length (l .loop .out) - l .loop .used) (l .loop .out) (c .put-next .last .0))
+wrote-next c =
     let n = c .before .before in
     let w = n .before in
     let l = w .before .before .before in
     let first = l .before .before .before .before .before in
-    let root = first .before in
-    let s = root .before .before .before .before .before in
+    let s = first .before .before .before .before .before .before in
     let name = name-text table brief (w .wide2 .result) _ (n .class-name2 .ensures) in
-    let below = name-text table brief (root .wide .result) _ (first .class-name .ensures) in
-    listed-next table brief (s .args .set) (root .wide .result) (l .loop .used) (l .loop .i) (length (l .loop .out) - l .loop .used) (now (s .args .order)) (l .loop .out)
-    (l .loop .inv .0) (omega arith) (omega (arith, roomy (w .before .before))) (w .wide2 .result) _ _ _ (w .wide2 .ensures) (next-is w .0) (next-is w .1)
-    (same-text (ap₂ (λ (t u : List ℕ). line t (s .args .set) (over u) (w .wide2 .result)) name below) (c .put-next .ensures))
+    let below = name-text table brief (first .before .wide .result) _ (first .class-name .ensures) in
+    part-puts (l .loop .out) (l .loop .used) (length (l .loop .out) - l .loop .used) (omega (arith, roomy (w .before .before)))
+    (same-text (ap₂ (λ (t u : List ℕ). line t (s .args .set) (over u) (w .wide2 .result)) name below) (c .put-next .ensures)) (c .put-next .kept .0)
+
+-- which has at most 70 bytes
+short-next : (c : tie.After-put-next Inv-loop μ-loop) → c .put-next .result ≤ 70
+short-next c =
+    let w = c .before .before .before in
+    let l = w .before .before .before in
+    let root = l .before .before .before .before .before .before in
+    let s = root .before .before .before .before .before in
+    let k = next-is w in
+    omega (arith, wrote-next c .wrote .place, line-length (nameOf table (w .wide2 .result)) (name-length table brief _) (s .args .set) (w .wide2 .result) (k .0) (k .1) (over (nameOf table (root .wide .result))) (over-length _ (name-length table brief _)))
 
 loop-again : tie.Need-loop-again Inv-loop μ-loop
 loop-again c =
     let n = c .before .before in
-    let l = n .before .before .before .before .before .before in
-    (listed n, same-len-mid (l .loop .used) (length (l .loop .out) - l .loop .used) (l .loop .out) (n .put-next .last .0) (n .put-next .kept .0) ∙ l .loop .inv .1)
+    let w = n .before .before .before in
+    let l = w .before .before .before in
+    let root = l .before .before .before .before .before .before in
+    let s = root .before .before .before .before .before in
+    let order = now (s .args .order) in
+    let next = one-line table (s .args .set) order (over (nameOf table (root .wide .result))) (l .loop .i) (w .wide2 .result) (w .wide2 .ensures) (omega arith) in
+    (so-far-next (l .loop .inv .0) _ _ next (wrote-next n), omega (arith, short-next n, l .loop .inv .1), omega arith)
 
 returns-2 : tie.Need-returns-2 Inv-loop μ-loop
+unfolding lines
 returns-2 c =
     let h = c .before .loop in
     let f = c .before .before .before .before in
     let root = f .before .before .before in
     let s = root .before .before .before .before .before in
-    let end : h .i ≡ length (now (s .args .order)) = omega (arith, h .inv .0 .inside) in
-    all-listed table (s .args .set) (root .wide .result) (h .used) (now (s .args .order)) (h .out) _
-    (subst (λ (n : ℕ). Listed table (s .args .set) (root .wide .result) (now (s .args .order)) (h .out) (h .used) n) end (h .inv .0))
-    (omega (arith, h .inv .0 .short, h .inv .0 .inside, h .inv .1, f .put-first .kept .0, s .pre .1, s .pre .3))
+    let order = now (s .args .order) in
+    let end : h .i ≡ length order = omega (arith, h .inv .2) in
+    let none : left (s .args .set) (root .wide .result) order (h .i) ≡ [] = ap (left (s .args .set) (root .wide .result) order) end ∙ ap (lines table (s .args .set) _) (drop-length order) in
+    same-text (all-lines table (s .args .set) order (root .wide .result) (root .wide .ensures) (omega arith)) (also (wrote-first f) (so-far-all (h .inv .0) none .wrote))
 
 pub put-lines-spec : {M : Type 1} → statement M
 put-lines-spec =
@@ -141,9 +170,9 @@ put-lines-spec =
     (λ c. omega (arith, roomy (c .before .before .before)))
     (λ c. search needs)
     put-next-requires
-    (λ c. omega (arith, listed (c .before .before) .short, c .before .before .before .before .before .before .before .before .before .before .before .before .before .before .before .before .before .before .before .pre .1))
+    (λ c. omega (arith, short-next (c .before .before), roomy (c .before .before .before .before .before .before .before)))
     (λ c. omega arith)
     (λ c. omega arith)
     loop-again
-    (λ c. c .before .loop .inv .1 ∙ c .before .before .before .before .put-first .kept .0)
+    (λ c. c .before .loop .inv .0 .puts .same ∙ c .before .before .before .before .put-first .kept .0)
     returns-2)

@@ -5,12 +5,11 @@ use Prim.Native.Nat.{_≤_}
 use native.Mathlib.Omega.{arith}
 use lib.ListN.{length}
 use borrow.Author.Needs.{needs}
-use Rattle.answer.specs.Words.{low, packed}
+use Rattle.answer.specs.Words.{low, packed, textOf}
 use Rattle.answer.proofs.Digits.{isShort, areBytes}
+use Rattle.answer.proofs.Texts.{text-length}
 use Rattle.answer.proofs.Writing.{also, put-short}
 use Rattle.candidates.specs.Candidates.{chord, line}
-use Rattle.candidates.specs.Texts.{textOf}
-use Rattle.candidates.proofs.Texts.{text-length}
 use Rattle.candidates.proofs.Listed.{chord-length, over-length}
 use Rattle.candidates.proofs.lines.put_next.Statement.{statement}
 use Rattle.candidates.proofs.lines.put_next.Tie as tie
@@ -20,7 +19,7 @@ module _ (c : tie.After-put-chord) where
   chord-short : length (chord (textOf (c .before .before .before .args .name)) (c .before .before .before .args .set) (c .before .before .before .args .class)) ≤ 66
   chord-short =
       let s = c .before .before .before in
-      let two = text-length (s .args .name) (s .pre .0) in
+      let two = text-length (s .args .name) (omega (arith, s .pre .0)) in
       chord-length (textOf (s .args .name)) (omega arith) (s .args .set) (s .args .class) (s .pre .1) (s .pre .3)
 
 put-over-requires : tie.Need-put-over-requires
@@ -36,7 +35,7 @@ returns c =
     let o = p .before .before .before .before in
     let d = o .before .before .before .before in
     let s = d .before .before .before in
-    let two = text-length (s .args .first) (s .pre .5) in
+    let two = text-length (s .args .first) (omega (arith, s .pre .5)) in
     let over = over-length (textOf (s .args .first)) (omega arith) in
     also (also (d .put-chord .ensures) (o .put-over .ensures))
     (put-short (10 ∷ []) tt _ _ _ _ _ refl

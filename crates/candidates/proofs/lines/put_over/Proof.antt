@@ -6,9 +6,9 @@ use borrow.Author.Needs.{needs}
 use Rattle.answer.specs.Words.{bytes, low, packed}
 use Rattle.answer.specs.Written.{Writes}
 use Rattle.answer.proofs.Digits.{isShort, areBytes}
+use Rattle.answer.proofs.Texts.{put-word}
 use Rattle.answer.proofs.Writing.{also, put-short}
 use Rattle.candidates.specs.Candidates.{over}
-use Rattle.candidates.proofs.Texts.{put-word}
 use Rattle.candidates.proofs.lines.put_over.Statement.{statement}
 use Rattle.candidates.proofs.lines.put_over.Tie as tie
 
@@ -23,7 +23,7 @@ returns c =
     let second = c .before .before in
     let p = second .before .before .before .before in
     let a = p .before .before .before in
-    also (slashed p) (put-word _ (a .pre .0) _ _ _ _ (omega (arith, slashed p .place, p .put .kept .0, a .pre .1)) (second .put2 .ensures))
+    also (slashed p) (put-word _ (omega (arith, a .pre .0)) _ _ _ _ (omega (arith, slashed p .place, p .put .kept .0, a .pre .1)) (second .put2 .ensures))
 
 pub put-over-spec : {M : Type 1} → statement M
 put-over-spec = tie.close (tie.spec (λ c κs. search needs) (λ c κs. search needs) (λ c. search needs) returns)
