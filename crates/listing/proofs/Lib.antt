@@ -2,3 +2,4 @@ pub mod Found
 pub mod Compared
 pub mod Laws
 pub mod Determined
+pub mod Shared

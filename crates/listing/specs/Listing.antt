@@ -23,3 +23,7 @@ inBytes (s ∷ more) = s / 256 ∷ s % 256 ∷ inBytes more
 -- the listing of a text
 unfoldable pub listingOf : List ℕ → List ℕ
 listingOf t = inBytes (setsOf t)
+
+-- no suffix stands for more sets, and some for as many: proofs/Shared.antt has the theorem
+abbrev pub mostShared : ℕ
+mostShared = 16

@@ -1,0 +1,106 @@
+-- At most sixteen rooted sets share a suffix. The suffixes of all 2,048 are read once, as numbers, and those are parted round
+-- the first of them, as a quicksort parts them: one computed test, and the law that it counts.
+--     sixteen        a text has at most so many sets
+--     listing-room   so a listing has at most 32 bytes
+use mathlib.Core.Path.{_≡_, refl, sym, ap, _∙_}
+use mathlib.Core.Bool.{Bool, true, false, cond, _&&_}
+use mathlib.Core.List.{List, [], _∷_}
+use Prim.Native.Nat.{ℕ, zero, suc, _+_, _*_, _<_, _≤_}
+use native.Mathlib.Omega.{arith}
+use lib.Dec.{T, eqb, ltb, ltb→lt}
+use lib.ListN.{length}
+use borrow.Author.Tests.{eq-eqb, ne-eqb, eqb-true, eqb-false, lt-ltb, ltb-false}
+use Rattle.answer.specs.Words.{bytes, same, low}
+use Rattle.answer.proofs.Tests.{left, right, said, same→eq}
+use Rattle.intervals.specs.Sets.{has, hasAll, hasNone, classCount, countBelow}
+use Rattle.intervals.specs.Intervals.{intervals, setOf}
+use Rattle.qualities.specs.Qualities.{qualityOf}
+use Rattle.rules.specs.Classes.{among, keep, only, atOnce, third, fourth, sixth, fifth, intervalsIn, intervalsOf}
+use Rattle.rules.specs.Parts.{hasThird, withThird, suffixQuality, isSus, within, alterationsOf, sixthAs13, extensionsOf, lastAdd, omitThird, omitFifth}
+use Rattle.rules.specs.Stack.{degreesOf, isDegree, reaches, isStacked, lastOf, modifierOf, isOwn, isAdd, addsOf}
+use Rattle.rules.specs.Heading.{nine, heading, sus}
+use Rattle.rules.specs.Suffix.{worded, addParts, parts, listed, close, parenthesized, suffixOf}
+use Rattle.listing.specs.Listing.{matching, setsOf, listingOf, mostShared}
+use Rattle.listing.proofs.Laws.{two-bytes}
+
+-- how often a number stands in a list
+unfoldable count : ℕ → List ℕ → ℕ
+count v [] = 0
+count v (x ∷ more) = cond (eqb v x) 1 0 + count v more
+
+-- those of a list that pass a test
+unfoldable those : (ℕ → Bool) → List ℕ → List ℕ
+those p [] = []
+those p (x ∷ more) = cond (p x) (x ∷ those p more) (those p more)
+
+abbrev lower : ℕ → List ℕ → List ℕ
+lower k l = those (λ x. ltb x k) l
+
+abbrev higher : ℕ → List ℕ → List ℕ
+higher k l = those (λ x. ltb k x) l
+
+-- no number stands in a list more often than `mostShared` says, told by at most n partings in a row
+unfoldable few : ℕ → List ℕ → Bool
+few zero [] = true
+few zero (x ∷ more) = false
+few (suc n) [] = true
+few (suc n) (x ∷ more) = ltb (count x more) mostShared && few n (lower x more) && few n (higher x more)
+
+-- the suffixes of n rooted sets from s on, as numbers
+unfoldable suffixes : ℕ → ℕ → List ℕ
+suffixes zero s = []
+suffixes (suc n) s = low (suffixOf s) ∷ suffixes n (s + 2)
+
+all-few : T (few 40 (suffixes 2048 1))
+unfolding count those few suffixes low bytes has hasAll hasNone classCount countBelow qualityOf intervals among keep only atOnce third fourth sixth fifth setOf intervalsIn intervalsOf hasThird withThird suffixQuality isSus within alterationsOf sixthAs13 extensionsOf degreesOf isDegree reaches isStacked lastOf modifierOf isOwn isAdd addsOf lastAdd omitThird omitFifth nine worded addParts parts listed close parenthesized heading sus suffixOf
+all-few = tt
+
+-- a number that passes the test stands among those as often
+count-those : (p : ℕ → Bool) (v : ℕ) → p v ≡ true → (l : List ℕ) → count v l ≤ count v (those p l)
+unfolding count those
+count-those p v is [] = omega arith
+count-those p v is (x ∷ more) = by-case (p x) refl (count-those p v is more)
+  where
+    by-case : (b : Bool) → p x ≡ b → count v more ≤ count v (those p more) → cond (eqb v x) 1 0 + count v more ≤ count v (cond b (x ∷ those p more) (those p more))
+    by-case true e rest = omega arith
+    by-case false e rest = rw (ne-eqb v x (λ same. absurd (said false (sym e ∙ ap p (sym same) ∙ is)))) (omega arith)
+
+few-says : (n : ℕ) (l : List ℕ) → T (few n l) → (v : ℕ) → count v l ≤ mostShared
+unfolding count few
+few-says zero [] t v = omega arith
+few-says zero (x ∷ more) t v = absurd t
+few-says (suc n) [] t v = omega arith
+few-says (suc n) (x ∷ more) t v = by-case (eqb v x) refl (ltb v x) refl (few-says n (lower x more) below v) (few-says n (higher x more) above v)
+  where
+    here : T (ltb (count x more) mostShared && few n (lower x more))
+    here = left (ltb (count x more) mostShared && few n (lower x more)) (few n (higher x more)) t
+
+    below : T (few n (lower x more))
+    below = right (ltb (count x more) mostShared) (few n (lower x more)) here
+
+    above : T (few n (higher x more))
+    above = right (ltb (count x more) mostShared && few n (lower x more)) (few n (higher x more)) t
+
+    by-case : (b : Bool) → eqb v x ≡ b → (c : Bool) → ltb v x ≡ c → count v (lower x more) ≤ mostShared → count v (higher x more) ≤ mostShared
+        → cond b 1 0 + count v more ≤ mostShared
+    by-case true e c f lo hi = rw (eqb-true v x e) (omega (arith, ltb→lt (count x more) mostShared (left (ltb (count x more) mostShared) (few n (lower x more)) here)))
+    by-case false e true f lo hi = omega (arith, count-those (λ y. ltb y x) v f more)
+    by-case false e false f lo hi = omega (arith, count-those (λ y. ltb x y) v (lt-ltb x v (omega (arith, ltb-false v x f, eqb-false v x e))) more)
+
+-- the sets of a text are no more than the suffixes that are its number
+found-counted : (t : List ℕ) (n s : ℕ) → length (matching t n s) ≤ count (low t) (suffixes n s)
+unfolding matching count suffixes
+found-counted t zero s = omega arith
+found-counted t (suc n) s = by-case (same t (suffixOf s)) refl (found-counted t n (s + 2))
+  where
+    by-case : (b : Bool) → same t (suffixOf s) ≡ b → length (matching t n (s + 2)) ≤ count (low t) (suffixes n (s + 2))
+        → length (cond b (s ∷ matching t n (s + 2)) (matching t n (s + 2))) ≤ cond (eqb (low t) (low (suffixOf s))) 1 0 + count (low t) (suffixes n (s + 2))
+    by-case true e rest = rw (eq-eqb (low t) (low (suffixOf s)) (ap low (same→eq t (suffixOf s) (said _ e)))) (omega arith)
+    by-case false e rest = omega arith
+
+pub sixteen : (t : List ℕ) → length (setsOf t) ≤ mostShared
+unfolding setsOf
+sixteen t = omega (arith, found-counted t 2048 1, few-says 40 (suffixes 2048 1) all-few (low t))
+
+pub listing-room : (t : List ℕ) → length (listingOf t) ≤ 2 * mostShared
+listing-room t = omega (arith, two-bytes t, sixteen t)
