@@ -14,9 +14,10 @@ use lib.Seq.{take-all, take-append-le, length-take-le, take-suc, set-split, appe
 use borrow.Author.Tests.{eq-eqb, ne-eqb}
 use Rattle.notes.specs.declared.note.Note.{Note}
 use Rattle.answer.specs.Written.{Writes}
-use Rattle.chordlist.specs.Replies.{lineText, Printed}
+use Rattle.chordlist.specs.Replies.{lineText}
+use Rattle.chordlist.specs.private.Calls.{Printed}
 use Rattle.answer.specs.Lines.{lineFeed}
-use Rattle.chordlist.specs.Pieces.{mostKept, heldWith, Keeps, saidWith, heldAfter}
+use Rattle.chordlist.specs.private.Pieces.{mostKept, heldWith, Keeps, saidWith, heldAfter}
 use Rattle.chordlist.proofs.Streams.{line-ends, line-goes-on, held-append}
 use Rattle.chordlist.proofs.Printing.{fronted, no-text, by-count}
 

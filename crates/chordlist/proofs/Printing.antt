@@ -18,7 +18,7 @@ use Rattle.answer.specs.declared.output.Output.{Output}
 use Rattle.answer.specs.declared.output.Output.the-variants.{Written, Refused}
 use Rattle.answer.specs.declared.refusal.Refusal.the-variants.{NoRoom}
 use Rattle.answer.proofs.Rooms.{written}
-use Rattle.chordlist.specs.Replies.{Printed}
+use Rattle.chordlist.specs.private.Calls.{Printed}
 
 -- what stands at the front of a range, and that it has room
 pub record Fronted (t room : List ℕ) (n : ℕ) (left : List ℕ) : Type 0 where

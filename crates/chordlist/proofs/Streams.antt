@@ -19,7 +19,7 @@ use Rattle.chordlist.specs.Parts.{withByte, parts}
 use Rattle.chordlist.specs.Replies.{lineText}
 use Rattle.answer.specs.Lines.{lineFeed}
 use Rattle.chordlist.specs.Input.{linesOf, inputText}
-use Rattle.chordlist.specs.Pieces.{mostKept, heldWith, saidWith, heldAfter, saidBy, saidAtEnd, saidByAll}
+use Rattle.chordlist.specs.private.Pieces.{mostKept, heldWith, saidWith, heldAfter, saidBy, saidAtEnd, saidByAll}
 use Rattle.chordlist.proofs.Parting.{onto, onto-part, onto-none, onto-byte}
 
 -- of a line, what is kept

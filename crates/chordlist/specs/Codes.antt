@@ -1,13 +1,10 @@
 -- The codes of a line: paper 01, program `chordlist`.
-use mathlib.Core.Path.{_≡_}
 use mathlib.Core.Bool.{Bool, true, cond, _&&_}
 use mathlib.Core.List.{List, [], _∷_}
-use Prim.Native.Nat.{ℕ, _+_, _-_, _*_, _≤_}
+use Prim.Native.Nat.{ℕ, _+_, _-_, _*_}
 use lib.Dec.{leb, ltb}
-use lib.ListN.{length, take}
+use lib.ListN.{length}
 use Rattle.chordlist.specs.Parts.{parts}
-use Rattle.chordlist.specs.declared.codes.Codes.{Codes}
-use Rattle.chordlist.specs.declared.codes.Codes.the-variants.{Read, Bad}
 
 -- what a line holds: its codes, or nothing that can be read
 pub data Line : Type 0 where
@@ -56,8 +53,3 @@ codesOf (part ∷ more) = cond (isCode part) (withCode (decimal 0 part) (codesOf
 unfoldable pub codesIn : List ℕ → Line
 codesIn [] = holds []
 codesIn (byte ∷ more) = codesOf (parts ([] ∷ []) space (byte ∷ more))
-
--- what a reader of a line answers, and what it leaves in the range that it was lent
-abbrev pub Reads : List ℕ → Codes → List ℕ → Type 0
-Reads line (Read n) left = (n ≤ 512) × (codesIn line ≡ holds (take n left))
-Reads line Bad left = codesIn line ≡ bad

@@ -2,4 +2,4 @@ pub mod Parts
 pub mod Codes
 pub mod Replies
 pub mod Input
-pub mod Pieces
+pub mod private

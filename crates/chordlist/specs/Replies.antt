@@ -7,8 +7,6 @@ use lib.ListN.{length}
 use Rattle.notes.specs.declared.note.Note.{Note}
 use Rattle.answer.specs.Lines.{lineFeed}
 use Rattle.answer.specs.Words.{bytes}
-use Rattle.answer.specs.Replies.{text, Answered}
-use Rattle.answer.specs.declared.output.Output.the-variants.{Written}
 use Rattle.candidates.specs.Candidates.{candidatesOf}
 use Rattle.chordlist.specs.Codes.{Line, bad, holds, codesIn}
 
@@ -28,11 +26,3 @@ heldText names (holds codes) = codesText names codes
 -- "lines of at most 1,024 bytes before LF"; "A bad line, or a longer one, prints `?` alone"
 unfoldable pub lineText : List Note → List ℕ → List ℕ
 lineText names line = cond (leb (length line) 1024) (heldText names (codesIn line)) badText
-
--- room for what is printed for any line: candidates of at most 840 bytes, `.` and LF
-abbrev pub mostPrinted : ℕ
-mostPrinted = 842
-
--- a text stands whole at the front of a range, n bytes long, and those behind it are as they were
-abbrev pub Printed : List ℕ → List ℕ → ℕ → List ℕ → Type 0
-Printed t room n left = Answered (text t) room (Written n) left

@@ -4,7 +4,7 @@ ghost use mathlib.Core.Bool.{_&&_};
 ghost use Prim.Native.Nat.{_≤_};
 ghost use lib.Dec.{leb, ltb};
 ghost use lib.ListN.{length};
-ghost use Rattle.chordlist.specs.Codes.{Reads};
+ghost use Rattle.chordlist.specs.private.Calls.{Reads};
 
 // The largest code, and the most digits that one has.
 const LAST_CODE: u32 = 255;

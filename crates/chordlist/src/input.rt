@@ -4,8 +4,8 @@ ghost use mathlib.Core.Path.{_≡_};
 ghost use Prim.Native.Nat.{_≤_};
 ghost use lib.ListN.{length};
 ghost use Rattle.names.specs.Names.{flats};
-ghost use Rattle.chordlist.specs.Replies.{Printed, mostPrinted};
-ghost use Rattle.chordlist.specs.Pieces.{mostKept, Keeps, Says, saidAtEnd};
+ghost use Rattle.chordlist.specs.private.Calls.{Printed, mostPrinted};
+ghost use Rattle.chordlist.specs.private.Pieces.{mostKept, Keeps, Says, saidAtEnd};
 
 // One byte more than a line may have, so that a longer one shows.
 pub const KEPT: usize = 1025;

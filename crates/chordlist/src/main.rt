@@ -14,7 +14,7 @@ ghost use mathlib.Core.Path.{_≡_};
 ghost use Prim.Native.Nat.{_≤_};
 ghost use lib.ListN.{length as size, take};
 ghost use Rattle.answer.specs.Written.{Writes};
-ghost use Rattle.chordlist.specs.Pieces.{mostKept, heldAfter};
+ghost use Rattle.chordlist.specs.private.Pieces.{mostKept, heldAfter};
 
 // Takes in a piece of the input byte by byte, and prints what each has written.
 fn feed(piece: &[u8], line: &mut [u8], length: usize) -> usize

@@ -6,7 +6,8 @@ use candidates::lines::candidates;
 ghost use Prim.Native.Nat.{_≤_};
 ghost use lib.ListN.{length};
 ghost use Rattle.names.specs.Names.{flats};
-ghost use Rattle.chordlist.specs.Replies.{codesText, lineText, mostPrinted, Printed};
+ghost use Rattle.chordlist.specs.Replies.{codesText, lineText};
+ghost use Rattle.chordlist.specs.private.Calls.{mostPrinted, Printed};
 
 // Candidates have at most 840 bytes, and then comes the line `.`.
 pub const ROOM: usize = 842;

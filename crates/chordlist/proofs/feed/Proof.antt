@@ -7,8 +7,8 @@ use lib.Seq.{length-take-le, take-length}
 use denote.Ref.{now}
 use borrow.Author.Needs.{needs}
 use Rattle.answer.specs.Written.{Writes}
-use Rattle.chordlist.specs.Replies.{mostPrinted}
-use Rattle.chordlist.specs.Pieces.{mostKept, heldAfter}
+use Rattle.chordlist.specs.private.Calls.{mostPrinted}
+use Rattle.chordlist.specs.private.Pieces.{mostKept, heldAfter}
 use Rattle.chordlist.proofs.Printing.{fronted}
 use Rattle.chordlist.proofs.Bytewise.{none-taken, one-taken}
 use Rattle.chordlist.proofs.feed.Statement.{statement}

@@ -5,7 +5,7 @@ use native.Mathlib.Omega.{arith}
 use lib.ListN.{length as size, take, length-take}
 use lib.Seq.{length-take-le}
 use borrow.Author.Needs.{needs}
-use Rattle.chordlist.specs.Pieces.{mostKept}
+use Rattle.chordlist.specs.private.Pieces.{mostKept}
 use Rattle.chordlist.proofs.Printing.{fronted}
 use Rattle.chordlist.proofs.Streams.{held-short}
 use Rattle.chordlist.proofs.main.Statement.{statement}

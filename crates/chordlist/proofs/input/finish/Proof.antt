@@ -8,7 +8,7 @@ use denote.Ref.{now}
 use borrow.Author.Needs.{needs}
 use Rattle.names.specs.Names.{flats}
 use Rattle.chordlist.specs.Replies.{lineText}
-use Rattle.chordlist.specs.Pieces.{saidAtEnd}
+use Rattle.chordlist.specs.private.Pieces.{saidAtEnd}
 use Rattle.chordlist.proofs.Printing.{no-text}
 use Rattle.chordlist.proofs.input.finish.Statement.{statement}
 use Rattle.chordlist.proofs.input.finish.Tie as tie

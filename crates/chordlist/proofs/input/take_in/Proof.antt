@@ -6,7 +6,7 @@ use lib.Seq.{length-take-le}
 use denote.Ref.{now}
 use borrow.Author.Needs.{needs}
 use Rattle.names.specs.Names.{flats}
-use Rattle.chordlist.specs.Pieces.{Says}
+use Rattle.chordlist.specs.private.Pieces.{Says}
 use Rattle.chordlist.proofs.Bytewise.{answered, silent, emptied, kept, full}
 use Rattle.chordlist.proofs.input.take_in.Statement.{statement}
 use Rattle.chordlist.proofs.input.take_in.Tie as tie

@@ -11,7 +11,8 @@ use borrow.Author.Needs.{needs}
 use borrow.Author.Tests.{le-leb, lt-leb}
 use Rattle.answer.specs.Words.{bytes}
 use Rattle.names.specs.Names.{flats}
-use Rattle.chordlist.specs.Codes.{Line, bad, holds, Reads, codesIn}
+use Rattle.chordlist.specs.Codes.{Line, bad, holds, codesIn}
+use Rattle.chordlist.specs.private.Calls.{Reads}
 use Rattle.chordlist.specs.Replies.{codesText, badText, heldText, lineText}
 use Rattle.chordlist.specs.declared.codes.Codes.{Codes}
 use Rattle.chordlist.specs.declared.codes.Codes.the-variants.{Read, Bad}

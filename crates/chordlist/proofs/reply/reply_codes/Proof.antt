@@ -13,7 +13,8 @@ use Rattle.names.specs.Names.{flats}
 use Rattle.names.proofs.Named.{flats-brief}
 use Rattle.candidates.specs.Candidates.{candidatesOf}
 use Rattle.candidates.proofs.Listed.{candidates-length}
-use Rattle.chordlist.specs.Replies.{codesText, Printed}
+use Rattle.chordlist.specs.Replies.{codesText}
+use Rattle.chordlist.specs.private.Calls.{Printed}
 use Rattle.chordlist.proofs.Printing.{two-more}
 use Rattle.chordlist.proofs.reply.reply_codes.Statement.{statement}
 use Rattle.chordlist.proofs.reply.reply_codes.Tie as tie

@@ -7,7 +7,8 @@ use lib.Dec.{eqb}
 use lib.ListN.{take}
 use Rattle.notes.specs.declared.note.Note.{Note}
 use Rattle.answer.specs.Lines.{lineFeed}
-use Rattle.chordlist.specs.Replies.{lineText, Printed}
+use Rattle.chordlist.specs.Replies.{lineText}
+use Rattle.chordlist.specs.private.Calls.{Printed}
 
 -- at most so many bytes of a line are kept: one more than it may have, so that a longer one shows
 abbrev pub mostKept : ℕ
