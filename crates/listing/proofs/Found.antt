@@ -1,79 +1,53 @@
--- The search on its way: what it has found of the sets before the one at i.
---     Found          what has been written is the listing up to there
---     found-none     at the start
---     found-next     a set that is not, or is, one of the text's
---     all-found      at the end
+-- The search on its way: the sets before the one at i are behind it, and those from there on are left.
+--     left-of        what is left to write
+--     one-found, one-skipped     the set at i is one of the text's, or is not
+--     has-room       a set that is found has its two bytes of room
 --     puts-set       a set's two bytes, as the code stores them
-use mathlib.Core.Path.{_≡_, refl, sym, ap, subst, _∙_}
+use mathlib.Core.Path.{_≡_, refl, ap, subst, _∙_}
 use mathlib.Core.Bool.{Bool, true, false, cond}
-use mathlib.Core.List.{List, [], _∷_, _++_, append-nil, append-assoc}
+use mathlib.Core.List.{List, [], _∷_, _++_}
 use Prim.Native.Nat.{ℕ, suc, _+_, _-_, _*_, _/_, _%_, _<_, _≤_}
-use native.Mathlib.Nat.{zero-add}
 use native.Mathlib.Numerals.{unary-clauses}
 use native.Mathlib.Omega.{arith}
-use lib.ListN.{length, take, set}
-use lib.Seq.{sets, length-take-le}
+use lib.ListN.{length, set}
+use lib.Seq.{sets}
 use Rattle.answer.specs.Words.{same}
 use Rattle.answer.specs.Written.{Writes}
-use Rattle.answer.proofs.Writing.{stored}
+use Rattle.answer.proofs.Writing.{stored, SoFar, so-far-end}
 use Rattle.rules.specs.Suffix.{suffixOf}
-use Rattle.listing.specs.Listing.{matching, setsOf, inBytes, listingOf}
+use Rattle.listing.specs.Listing.{matching, inBytes, listingOf}
+use Rattle.listing.proofs.Shared.{listing-room}
 
--- those of the sets from the one at i on
-abbrev left-of : List ℕ → ℕ → List ℕ
+abbrev pub left-of : List ℕ → ℕ → List ℕ
 left-of t i = inBytes (matching t (2048 - i) (2 * i + 1))
 
-pub record Found (t : List ℕ) (l : List ℕ) (used i : ℕ) : Type 0 where
-  pub rest : take used l ++ left-of t i ≡ listingOf t
-  pub short : used ≤ 2 * i
-  pub inside : i ≤ 2048
-
-pub found-none : (t l : List ℕ) → Found t l 0 0
-unfolding setsOf listingOf
-found-none t l = record { rest = refl; short = omega arith; inside = omega arith }
+-- a set in two bytes
+abbrev pub two : ℕ → List ℕ
+two s = s / 256 ∷ s % 256 ∷ []
 
 module _ (t : List ℕ) (i : ℕ) (more : i < 2048) where
-  step : matching t (2048 - i) (2 * i + 1)
-      ≡ cond (same t (suffixOf (2 * i + 1))) ((2 * i + 1) ∷ matching t (2048 - (i + 1)) (2 * (i + 1) + 1)) (matching t (2048 - (i + 1)) (2 * (i + 1) + 1))
-  unfolding matching
-  step =
+  step : (b : Bool) → same t (suffixOf (2 * i + 1)) ≡ b → left-of t i ≡ cond b (two (2 * i + 1)) [] ++ left-of t (i + 1)
+  unfolding matching inBytes
+  step b e =
       let one : 2048 - i ≡ suc (2048 - (i + 1)) = omega arith in
       let next : 2 * i + 1 + 2 ≡ 2 * (i + 1) + 1 = omega arith in
-      ap (λ (n : ℕ). matching t n (2 * i + 1)) one
-      ∙ ap (λ (k : ℕ). cond (same t (suffixOf (2 * i + 1))) ((2 * i + 1) ∷ matching t (2048 - (i + 1)) k) (matching t (2048 - (i + 1)) k)) next
+      let later = matching t (2048 - (i + 1)) in
+      ap (λ (n : ℕ). inBytes (matching t n (2 * i + 1))) one
+      ∙ ap (λ (k : ℕ). inBytes (cond (same t (suffixOf (2 * i + 1))) ((2 * i + 1) ∷ later k) (later k))) next
+      ∙ ap (λ (b : Bool). inBytes (cond b ((2 * i + 1) ∷ later (2 * (i + 1) + 1)) (later (2 * (i + 1) + 1)))) e ∙ by-case b
+    where
+      by-case : (b : Bool) → inBytes (cond b ((2 * i + 1) ∷ matching t (2048 - (i + 1)) (2 * (i + 1) + 1)) (matching t (2048 - (i + 1)) (2 * (i + 1) + 1))) ≡ cond b (two (2 * i + 1)) [] ++ left-of t (i + 1)
+      by-case true = refl
+      by-case false = refl
 
-  pub found-skip : (l : List ℕ) (used : ℕ) → Found t l used i → same t (suffixOf (2 * i + 1)) ≡ false → Found t l used (i + 1)
-  found-skip l used f isn =
-      record {
-        rest =
-            ap (λ (b : List ℕ). take used l ++ inBytes b)
-            (sym (step ∙ ap (λ (b : Bool). cond b ((2 * i + 1) ∷ matching t (2048 - (i + 1)) (2 * (i + 1) + 1)) (matching t (2048 - (i + 1)) (2 * (i + 1) + 1))) isn))
-            ∙ f .rest;
-        short = omega (arith, f .short);
-        inside = omega arith;
-      }
+  pub one-found : same t (suffixOf (2 * i + 1)) ≡ true → left-of t i ≡ two (2 * i + 1) ++ left-of t (i + 1)
+  one-found is = step true is
 
-  pub found-one : (l l′ : List ℕ) (used r : ℕ) → Found t l used i → same t (suffixOf (2 * i + 1)) ≡ true
-      → Writes l used ((2 * i + 1) / 256 ∷ (2 * i + 1) % 256 ∷ []) r l′ → Found t l′ r (i + 1)
-  unfolding inBytes
-  found-one l l′ used r f is w =
-      let s = 2 * i + 1 in
-      record {
-        rest =
-            ap (λ (x : List ℕ). x ++ left-of t (i + 1)) (w .added)
-            ∙ append-assoc (take used l) (s / 256 ∷ s % 256 ∷ []) (left-of t (i + 1))
-            ∙ ap (λ (b : List ℕ). take used l ++ inBytes b)
-            (sym (step ∙ ap (λ (b : Bool). cond b (s ∷ matching t (2048 - (i + 1)) (2 * (i + 1) + 1)) (matching t (2048 - (i + 1)) (2 * (i + 1) + 1))) is))
-            ∙ f .rest;
-        short = omega (arith, f .short, w .place);
-        inside = omega arith;
-      }
+  pub one-skipped : same t (suffixOf (2 * i + 1)) ≡ false → left-of t i ≡ left-of t (i + 1)
+  one-skipped isn = step false isn
 
-pub all-found : (t l l₀ : List ℕ) (used : ℕ) → Found t l used 2048 → used ≤ length l → Writes l₀ 0 (listingOf t) used l
-unfolding matching inBytes
-all-found t l l₀ used f room =
-    let whole : take used l ≡ listingOf t = sym (append-nil (take used l)) ∙ f .rest in
-    record { place = sym (length-take-le used l room) ∙ ap length whole ∙ sym (zero-add (length (listingOf t))); added = whole }
+  pub has-room : {l₀ l : List ℕ} {used : ℕ} → SoFar l₀ 0 (listingOf t) l used (left-of t i) → 32 ≤ length l₀ → same t (suffixOf (2 * i + 1)) ≡ true → used + 2 ≤ length l
+  has-room s room is = omega (arith, so-far-end s, listing-room t, ap length (one-found is), s .puts .same)
 
 pub puts-set : (l : List ℕ) (at a b : ℕ) → at + 2 ≤ length l → Writes l at (a ∷ b ∷ []) (at + 2) (set (set l at a) (at + 1) b)
 puts-set l at a b room =

@@ -1,5 +1,5 @@
-pub mod Found
 pub mod Compared
 pub mod Laws
-pub mod Determined
 pub mod Shared
+pub mod Found
+pub mod Determined

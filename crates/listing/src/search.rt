@@ -19,8 +19,8 @@ const SETS: u32 = 2048;
 // No suffix has more bytes.
 const LONGEST: usize = 27;
 
-// Each rooted set, in two bytes.
-const ROOM: usize = 4096;
+// No suffix stands for more than sixteen sets, of two bytes each.
+const ROOM: usize = 32;
 
 // Every rooted set whose suffix is a text, two bytes each, big-endian, rising.
 pub fn listing(name: &[u8], out: &mut [u8]) -> Output
@@ -36,7 +36,7 @@ pub fn listing(name: &[u8], out: &mut [u8]) -> Output
 
 // Writes the sets of a text to the front of `found`.
 fn search(name: &[u8], found: &mut [u8]) -> usize
-    requires { ⌜ 4096 ≤ length (now found) ⌝ }
+    requires { ⌜ 32 ≤ length (now found) ⌝ }
     ensures { λ r. ⌜ Writes (now (found .entry)) 0 (listingOf (now (name .entry))) r (now (found .exit)) ⌝ }
 {
     let mut used = 0;
