@@ -24,6 +24,6 @@ inBytes (s ∷ more) = s / 256 ∷ s % 256 ∷ inBytes more
 unfoldable pub listingOf : List ℕ → List ℕ
 listingOf t = inBytes (setsOf t)
 
--- no suffix stands for more sets, and some for as many: proofs/Shared.antt has the theorem
+-- no suffix stands for more sets: proofs/Shared.antt has the theorem
 abbrev pub mostShared : ℕ
 mostShared = 16
