@@ -3,16 +3,17 @@
 --     refused-by    the same, where a refusal is what a call has to give
 --     no-room       a text longer than the room: refusal 7
 --     written       a text that has room stands at the front
+--     roomy         a room of so many bytes is enough for a text of at most so many
 --     copied        a turn of the loop that writes it
 use mathlib.Core.Path.{_≡_, refl, sym, subst}
 use mathlib.Core.List.{List, _++_}
 use Prim.Native.Nat.{ℕ, _+_, _≤_, _<_}
-use native.Mathlib.Nat.{zero-add}
+use native.Mathlib.Nat.{zero-add, le-trans}
 use native.Mathlib.Numerals.{add-one}
 use lib.ListN.{length, take, drop, getD, set}
 use lib.Seq.{paste-suc}
 use borrow.Author.Tests.{le-leb, lt-leb}
-use Rattle.answer.specs.Replies.{Reply, refuse, text, outputOf, roomAfter, Answered}
+use Rattle.answer.specs.Replies.{Reply, refuse, text, outputOf, roomAfter, Answered, AtMost, unhindered}
 use Rattle.answer.specs.declared.refusal.Refusal.{Refusal}
 use Rattle.answer.specs.declared.refusal.Refusal.the-variants.{NoRoom}
 use Rattle.answer.specs.declared.output.Output.the-variants.{Written, Refused}
@@ -31,6 +32,10 @@ no-room t room h = (simp (lt-leb _ _ h), simp (lt-leb _ _ h))
 pub written : (t room : List ℕ) → length t ≤ length room → Answered (text t) room (Written (length t)) (t ++ drop (length t) room)
 unfolding outputOf roomAfter
 written t room h = (simp (le-leb _ _ h), simp (le-leb _ _ h))
+
+pub roomy : (n : ℕ) (reply : Reply) → AtMost n reply → (room : List ℕ) → n ≤ length room → outputOf reply room ≡ unhindered reply
+roomy n (refuse why) fits room h = sym (refused why room .0)
+roomy n (text t) fits room h = sym (written t room (le-trans fits h) .0)
 
 -- a turn of a copy: its store takes the copy of i bytes to the copy of one more
 pub copied : (from room : List ℕ) (i : ℕ) → i < length from → i < length room

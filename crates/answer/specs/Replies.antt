@@ -2,7 +2,7 @@
 use mathlib.Core.Path.{_≡_}
 use mathlib.Core.Bool.{Bool, cond}
 use mathlib.Core.List.{List, _++_}
-use Prim.Native.Nat.{ℕ}
+use Prim.Native.Nat.{ℕ, _≤_}
 use lib.Dec.{leb}
 use lib.ListN.{length, drop}
 use Rattle.answer.specs.declared.refusal.Refusal.{Refusal}
@@ -23,6 +23,16 @@ fits t room = leb (length t) (length room)
 unfoldable pub outputOf : Reply → List ℕ → Output
 outputOf (refuse why) room = Refused why
 outputOf (text t) room = cond (fits t room) (Written (length t)) (Refused NoRoom)
+
+-- a reply's text, where it has one, has at most so many bytes
+abbrev pub AtMost : ℕ → Reply → Type 0
+AtMost n (refuse why) = Unit {0}
+AtMost n (text t) = length t ≤ n
+
+-- the answer where there is room enough: the room's size is in none of it
+abbrev pub unhindered : Reply → Output
+unhindered (refuse why) = Refused why
+unhindered (text t) = Written (length t)
 
 -- the room at exit: "a refusal alters no lent byte", and "bytes behind the written ones are unaltered"
 unfoldable pub roomAfter : Reply → List ℕ → List ℕ

@@ -19,7 +19,7 @@ use Rattle.candidates.specs.Candidates.{chord, over, line, lines, allLin
 use Rattle.candidates.specs.private.Finds.{Classes}
 use Rattle.intervals.proofs.Counted.{class-count}
 use Rattle.candidates.proofs.Heard.{firsts-classes, set-count, set-less, set-of-firsts}
-use Rattle.candidates.proofs.Turned.{seen-less, seen-odd}
+use Rattle.candidates.proofs.Turned.{seen-rooted}
 
 over-line : (first : List ℕ) → lineFeeds first ≡ 0 → lineFeeds (over first) ≡ 0
 unfolding over bytes lineFeeds
@@ -31,7 +31,7 @@ line-feed : (name : List ℕ) → lineFeeds name ≡ 0 → (set class : ℕ) →
 unfolding line chord lineFeeds
 line-feed name named set class small heard behind none =
     simp feeds-append
-    (omega (arith, suffix-line (seenFrom class set) (seen-less class set) (seen-odd class set heard small)))
+    (omega (arith, suffix-line (seenFrom class set) (seen-rooted class set heard small)))
 
 module _ (table : List Note) (brief : T (areBrief table)) where
   lines-feeds : (set : ℕ) (behind : List ℕ) → lineFeeds behind ≡ 0 → (classes : List ℕ) → Classes set classes → lineFeeds (lines table set behind classes) ≡ length classes

@@ -25,7 +25,7 @@ use Rattle.candidates.specs.Keys.{seenFrom, classSet, firsts}
 use Rattle.candidates.specs.Candidates.{chord, over, line, lines, allLines, candidatesOf}
 use Rattle.candidates.specs.private.Finds.{Classes}
 use Rattle.candidates.proofs.Heard.{firsts-classes, firsts-few}
-use Rattle.candidates.proofs.Turned.{seen-less, seen-odd}
+use Rattle.candidates.proofs.Turned.{seen-rooted}
 
 module _ (table : List Note) (brief : T (areBrief table)) (class word : ℕ) (e : word ≡ packed (nameOf table class)) where
   pub name-long : long word ≤ 2
@@ -38,7 +38,7 @@ module _ (table : List Note) (brief : T (areBrief table)) (class word : ℕ) (e 
 module _ (name : List ℕ) (two : length name ≤ 2) (set class : ℕ) (small : class < 12) (heard : has set class ≡ true) where
   pub chord-length : length (chord name set class) ≤ 66
   unfolding chord
-  chord-length = simp length-append (omega (arith, suffix-short (seenFrom class set) (seen-less class set) (seen-odd class set heard small)))
+  chord-length = simp length-append (omega (arith, suffix-short (seenFrom class set) (seen-rooted class set heard small)))
 
   pub line-length : (behind : List ℕ) → length behind ≤ 3 → length (line name set behind class) ≤ 70
   unfolding line

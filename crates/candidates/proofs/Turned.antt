@@ -4,7 +4,7 @@
 --     seen-rooted      seen from one of its classes, it is rooted
 --     seen-next        one class more of the walk, as the code adds it
 use mathlib.Core.Path.{_≡_, refl, ap, _∙_}
-use mathlib.Core.Bool.{Bool, true, false, cond, _&&_}
+use mathlib.Core.Bool.{Bool, true, false, cond}
 use Prim.Native.Nat.{ℕ, _+_, _*_, _/_, _%_, _^_, _<_, _≤_}
 use native.Mathlib.Nat.{zero-mul, one-mul}
 use native.Mathlib.Numerals.{add-one}
@@ -13,7 +13,6 @@ use lib.Pow.{shl-exact}
 use borrow.Author.Tests.{le-leb}
 use Rattle.intervals.specs.Sets.{isSet, has, isRooted}
 use Rattle.intervals.proofs.Members.{held, absent}
-use Rattle.intervals.proofs.Rooted.{rooted-odd}
 use Rattle.candidates.specs.Keys.{setBelow, seenFrom}
 use Rattle.candidates.proofs.Wheres.{where-less, where-says}
 
@@ -31,9 +30,6 @@ seen-rooted root s e h =
     let same : (root + 0) % 12 ≡ root = omega arith in
     let small : seenFrom root s ≤ 4095 = omega (arith, seen-less root s) in
     rw (le-leb _ _ small, seen-from-says root s 0 (omega arith), same, e)
-
-pub seen-odd : (root s : ℕ) → has s root ≡ true → root < 12 → seenFrom root s % 2 ≡ 1
-seen-odd root s e h = rooted-odd (seenFrom root s) (seen-rooted root s e h)
 
 -- a class's digit, moved to its new place
 digit : (s j k : ℕ) → s / 2 ^ j % 2 * 2 ^ k ≡ cond (has s j) (2 ^ k) 0

@@ -2,28 +2,25 @@
 --     split        what the extensions become
 --     described    at a rooted set the descriptor
 use mathlib.Core.Path.{_≡_, ap, ap₂, _∙_}
-use mathlib.Core.Bool.{Bool}
-use Prim.Native.Nat.{ℕ, _%_, _<_}
+use mathlib.Core.Bool.{Bool, true}
+use Prim.Native.Nat.{ℕ}
 use lib.Bits.{bitAnd, bitOr}
-use lib.Dec.{eqb}
+use Rattle.intervals.specs.Sets.{isRooted}
 use Rattle.intervals.specs.Intervals.{setOf}
 use Rattle.intervals.specs.declared.interval.Numbered.{Numbered}
 use Rattle.qualities.specs.Masks.{ownBits, alterationBits, extensionBits, stackBits}
 use Rattle.qualities.specs.declared.quality.ChordQuality.{ChordQuality}
 use Rattle.intervals.specs.declared.interval.Interval.the-variants.{Ninth}
 use Rattle.rules.specs.Classes.{only, intervalsOf}
-use Rattle.rules.specs.Parts.{suffixQuality, isSus, lastAdd, omitFifth}
+use Rattle.rules.specs.Parts.{suffixQuality, lastAdd, omitFifth}
 use Rattle.rules.specs.Stack.{unstackedOf, modifierOf, addsOf}
 use Rattle.rules.specs.Heading.{nine}
-use Rattle.rules.proofs.Agree.{test}
-use Rattle.rules.proofs.Tested.{extensionsFrom, unstackedFrom, modifierFrom, addsFrom, nineFrom, lastFrom}
-use Rattle.rules.proofs.Read.{sus-told, alterations, extensions, unstacked}
-use Rattle.rules.proofs.Added.{modifier, adds, nine-behind, last-add}
-use Rattle.rules.proofs.Parted.{omit-third-told, omit-fifth, omits}
+use Rattle.rules.specs.private.Steps.{susFrom, extensionsFrom, unstackedFrom, modifierFrom, addsFrom, nineFrom, lastFrom, omittedThirdFrom, omittedFifthFrom}
+use Rattle.rules.proofs.Told as Told
 use Rattle.descriptors.specs.declared.kinds.Kind.{Kind}
 use Rattle.descriptors.specs.declared.descriptor.Descriptor.{Descriptor}
 use Rattle.descriptors.specs.Kinds.{kindOf}
-use Rattle.descriptors.specs.Split.{missedBy, Splits}
+use Rattle.descriptors.specs.private.Split.{missedBy, Splits}
 use Rattle.descriptors.specs.Descriptors.{descriptorOf}
 
 pub split : (q : ChordQuality) (row : Kind) → row ≡ kindOf q → (a e u stack own : ℕ) (m : Numbered) (found nine : ℕ)
@@ -38,18 +35,18 @@ split q row t a e u stack own m found nine hu hs ho hm hf hn =
       behind = hn ∙ ap (λ (k : Kind). nineFrom (k .4) found) t;
     }
 
-module _ (s : ℕ) (small : s < 4096) (odd : s % 2 ≡ 1) where
+module _ (s : ℕ) (is : isRooted s ≡ true) where
   -- of its intervals and quality, the masks, what the steps gave
   pub described : (i : ℕ) (q : ChordQuality) (altered extended e : ℕ) (m : Numbered) (found behind third noThird noFifth : ℕ)
       → i ≡ setOf (intervalsOf s) → q ≡ suffixQuality s → altered ≡ alterationBits q → extended ≡ extensionBits q → e ≡ extensionsFrom i extended
       → Splits q (bitAnd i altered) e m found behind
-      → third ≡ lastFrom (eqb (bitAnd s 40) 32) i → noThird ≡ test (bitAnd s 56) 0 16 0 → noFifth ≡ test (bitAnd i 2098048) 0 256 0
+      → third ≡ lastFrom (susFrom s) i → noThird ≡ omittedThirdFrom s → noFifth ≡ omittedFifthFrom i
       → _≡_ {A = Descriptor}
       record {
         set = s;
         intervals = i;
         quality = q;
-        sus = eqb (bitAnd s 40) 32;
+        sus = susFrom s;
         modifier = m;
         alterations = bitAnd i altered;
         adds = found;
@@ -60,13 +57,13 @@ module _ (s : ℕ) (small : s < 4096) (odd : s % 2 ≡ 1) where
       (descriptorOf s)
   unfolding descriptorOf
   described i q altered extended e m found behind third noThird noFifth hi hq ha hx he hs ht ho hf =
-      let als = ap₂ bitAnd hi (ha ∙ ap alterationBits hq) ∙ alterations s small odd in
-      let exs = he ∙ ap₂ extensionsFrom hi (hx ∙ ap extensionBits hq) ∙ extensions s small odd in
-      let missed : missedBy q (bitAnd i altered) e ≡ setOf (unstackedOf (suffixQuality s) (intervalsOf s)) = rw (als, exs, hq) (unstacked s small odd) in
-      let last : m ≡ modifierOf (suffixQuality s) (intervalsOf s) = hs .stacked ∙ rw (missed, exs, hq) (modifier s small odd) in
-      let added : found ≡ setOf (addsOf (suffixQuality s) (intervalsOf s)) = hs .added ∙ rw (missed, exs, hq) (adds s small odd) in
-      let nines : behind ≡ setOf (only (nine (suffixQuality s) (addsOf (suffixQuality s) (intervalsOf s))) Ninth) = hs .behind ∙ rw (added, hq) (nine-behind s small odd) in
-      let thirds : third ≡ setOf (lastAdd s) = ht ∙ rw (sus-told s small odd, hi) (last-add s small odd) in
-      let fifths : noFifth ≡ setOf (omitFifth s) = hf ∙ rw hi (omit-fifth s small odd) in
-      let omitted = ap₂ bitOr (omit-third-told noThird s small odd ho) fifths ∙ omits s small odd in
-      rw (als, last, nines, added, thirds, omitted, sus-told s small odd, hi, hq)
+      let als = ap₂ bitAnd hi (ha ∙ ap alterationBits hq) ∙ Told.alterations s is in
+      let exs = he ∙ ap₂ extensionsFrom hi (hx ∙ ap extensionBits hq) ∙ Told.extensions s is in
+      let missed : missedBy q (bitAnd i altered) e ≡ setOf (unstackedOf (suffixQuality s) (intervalsOf s)) = rw (als, exs, hq) (Told.unstacked s is) in
+      let last : m ≡ modifierOf (suffixQuality s) (intervalsOf s) = hs .stacked ∙ rw (missed, exs, hq) (Told.modifier s is) in
+      let added : found ≡ setOf (addsOf (suffixQuality s) (intervalsOf s)) = hs .added ∙ rw (missed, exs, hq) (Told.adds s is) in
+      let nines : behind ≡ setOf (only (nine (suffixQuality s) (addsOf (suffixQuality s) (intervalsOf s))) Ninth) = hs .behind ∙ rw (added, hq) (Told.nine-behind s is) in
+      let thirds : third ≡ setOf (lastAdd s) = ht ∙ rw (Told.sus-told s is, hi) (Told.last-add s is) in
+      let fifths : noFifth ≡ setOf (omitFifth s) = hf ∙ rw hi (Told.omit-fifth s is) in
+      let omitted = ap₂ bitOr (ho ∙ Told.omit-third s is) fifths ∙ Told.omits s is in
+      rw (als, last, nines, added, thirds, omitted, Told.sus-told s is, hi, hq)

@@ -1,3 +1,3 @@
 pub mod Kinds
 pub mod Descriptors
-pub mod Split
+pub mod private

@@ -21,7 +21,7 @@ use intervals::interval::UNISON;
 ghost use mathlib.Core.Path.{_≡_};
 ghost use Rattle.intervals.specs.Intervals.{setOf};
 ghost use Prim.Native.Nat.{_<_, _%_};
-ghost use Rattle.rules.specs.Classes.{atOnce, third, fourth, sixth, fifth, intervalsOf};
+ghost use Rattle.rules.specs.Classes.{atOnce, ofClass3, ofClass6, ofClass9, ofClass8, intervalsOf};
 
 const CLASS_1: u32 = 1 << 1;
 
@@ -78,7 +78,7 @@ fn at_once(set: u32) -> u32
 // 3 is #9 if a major third is present, else minor third.
 fn resolve_third(set: u32) -> u32
     requires { ⌜ set < 4096 ⌝ }
-    ensures { λ r. ⌜ r ≡ setOf (third set) ⌝ }
+    ensures { λ r. ⌜ r ≡ setOf (ofClass3 set) ⌝ }
 {
     if set & CLASS_3 == 0 {
         return 0;
@@ -92,7 +92,7 @@ fn resolve_third(set: u32) -> u32
 // 6 is #11 if a perfect fifth is present, else b5.
 fn resolve_fourth(set: u32) -> u32
     requires { ⌜ set < 4096 ⌝ }
-    ensures { λ r. ⌜ r ≡ setOf (fourth set) ⌝ }
+    ensures { λ r. ⌜ r ≡ setOf (ofClass6 set) ⌝ }
 {
     if set & CLASS_6 == 0 {
         return 0;
@@ -107,7 +107,7 @@ fn resolve_fourth(set: u32) -> u32
 // major sixth.
 fn resolve_sixth(set: u32) -> u32
     requires { ⌜ set < 4096 ⌝ }
-    ensures { λ r. ⌜ r ≡ setOf (sixth set) ⌝ }
+    ensures { λ r. ⌜ r ≡ setOf (ofClass9 set) ⌝ }
 {
     if set & CLASS_9 == 0 {
         return 0;
@@ -125,7 +125,7 @@ fn resolve_sixth(set: u32) -> u32
 // a major third is, else b6.
 fn resolve_augmented_fifth(set: u32) -> u32
     requires { ⌜ set < 4096 ⌝ }
-    ensures { λ r. ⌜ r ≡ setOf (fifth set) ⌝ }
+    ensures { λ r. ⌜ r ≡ setOf (ofClass8 set) ⌝ }
 {
     if set & CLASS_8 == 0 {
         return 0;

@@ -27,15 +27,15 @@ use intervals::set::is_rooted;
 use qualities::quality::ChordQuality;
 use qualities::quality::QualityAnswer;
 ghost use mathlib.Core.Path.{_≡_};
-ghost use Prim.Native.Nat.{_<_, _%_};
-ghost use lib.Bits.{bitAnd};
+ghost use mathlib.Core.Bool.{true};
+ghost use Prim.Native.Nat.{_<_};
+ghost use Rattle.intervals.specs.Sets.{isRooted};
 ghost use Rattle.intervals.specs.Intervals.{setOf};
 ghost use Rattle.rules.specs.Classes.{intervalsOf};
 ghost use Rattle.rules.specs.Parts.{withThird, suffixQuality};
-ghost use Rattle.rules.proofs.Agree.{test};
-ghost use Rattle.rules.proofs.Tested.{extensionsFrom, unstackedFrom, modifierFrom, addsFrom, nineFrom, lastFrom};
+ghost use Rattle.rules.specs.private.Steps.{extensionsFrom, unstackedFrom, modifierFrom, addsFrom, nineFrom, lastFrom, omittedThirdFrom, omittedFifthFrom};
 ghost use Rattle.descriptors.specs.Descriptors.{descriptorAnswer};
-ghost use Rattle.descriptors.specs.Split.{Splits};
+ghost use Rattle.descriptors.specs.private.Split.{Splits};
 
 const THIRDS: u32 = MINOR_THIRD | MAJOR_THIRD;
 
@@ -76,7 +76,7 @@ pub struct Split {
 }
 
 fn shown_quality(set: u32, intervals: u32) -> ChordQuality
-    requires { ⌜ (set < 4096) × (set % 2 ≡ 1) × (intervals ≡ setOf (intervalsOf set)) ⌝ }
+    requires { ⌜ (isRooted set ≡ true) × (intervals ≡ setOf (intervalsOf set)) ⌝ }
     ensures { λ r. ⌜ r ≡ suffixQuality set ⌝ }
 {
     match qualities::quality::quality(with_third(set, intervals)) {
@@ -87,7 +87,7 @@ fn shown_quality(set: u32, intervals: u32) -> ChordQuality
 
 // If neither third is among the intervals, class 4 is put in.
 fn with_third(set: u32, intervals: u32) -> u32
-    requires { ⌜ (set < 4096) × (set % 2 ≡ 1) × (intervals ≡ setOf (intervalsOf set)) ⌝ }
+    requires { ⌜ (isRooted set ≡ true) × (intervals ≡ setOf (intervalsOf set)) ⌝ }
     ensures { λ r. ⌜ (r ≡ withThird set) × (r < 4096) ⌝ }
 {
     if intervals & THIRDS == 0 {
@@ -187,7 +187,7 @@ fn last_add(sus: bool, intervals: u32) -> u32
 
 // Neither third, and not sus: without class 3, that is without class 5.
 fn omitted_third(set: u32) -> u32
-    ensures { λ r. ⌜ r ≡ test (bitAnd set 56) 0 16 0 ⌝ }
+    ensures { λ r. ⌜ r ≡ omittedThirdFrom set ⌝ }
 {
     if set & (CLASS_3 | CLASS_4 | CLASS_5) == 0 {
         return MAJOR_THIRD;
@@ -196,7 +196,7 @@ fn omitted_third(set: u32) -> u32
 }
 
 fn omitted_fifth(intervals: u32) -> u32
-    ensures { λ r. ⌜ r ≡ test (bitAnd intervals 2098048) 0 256 0 ⌝ }
+    ensures { λ r. ⌜ r ≡ omittedFifthFrom intervals ⌝ }
 {
     if intervals & (FIFTHS | FLAT_THIRTEENTH) == 0 {
         return PERFECT_FIFTH;

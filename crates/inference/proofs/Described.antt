@@ -5,27 +5,28 @@
 --     small-told       its sets are of the 23 intervals
 use mathlib.Core.Path.{_≡_, refl, ap, ap₂, _∙_}
 use mathlib.Core.Bool.{Bool, true, false, cond, not, _||_}
-use mathlib.Core.List.{List, [], _++_, append-assoc}
-use Prim.Native.Nat.{ℕ, _%_, _<_}
+use mathlib.Core.List.{List, [], _++_}
+use Prim.Native.Nat.{ℕ}
 use lib.Bits.{bitAnd, bitXor}
 use lib.Dec.{eqb}
-use Rattle.answer.specs.Words.{bytes, low, packed}
+use Rattle.answer.specs.Words.{low, packed}
+use Rattle.intervals.specs.Sets.{isRooted}
 use Rattle.intervals.specs.Intervals.{notationOf, setOf}
+use Rattle.intervals.proofs.Rows.{set-small}
 use Rattle.intervals.specs.declared.interval.Interval.the-variants.{Ninth}
 use Rattle.intervals.specs.declared.interval.Numbered.{Numbered}
 use Rattle.intervals.specs.declared.interval.Numbered.the-variants.{Is, Nothing}
 use Rattle.qualities.specs.declared.quality.ChordQuality.{ChordQuality}
 use Rattle.rules.specs.Classes.{only, intervalsIn, intervalsOf}
-use Rattle.rules.specs.Parts.{suffixQuality, alterationsOf, lastAdd, omitThird, omitFifth}
-use Rattle.rules.specs.Stack.{modifierOf, addsOf}
-use Rattle.rules.specs.Heading.{wording, showsModifier, unmodified, modified, nine, heading, sus}
-use Rattle.rules.specs.Suffix.{worded, addParts, parts}
+use Rattle.rules.specs.Parts.{suffixQuality, lastAdd}
+use Rattle.rules.specs.Stack.{addsOf}
+use Rattle.rules.specs.Heading.{showsModifier, unmodified, modified, nine, heading, sus}
+use Rattle.rules.specs.Suffix.{worded, parts}
 use Rattle.rules.proofs.Tested as Tested
-use Rattle.rules.proofs.Added.{written-adds}
-use Rattle.rules.proofs.Parted.{alterations-listed, omits-listed, alterations-small, adds-small, only-small, last-small, omits-small}
+use Rattle.rules.proofs.Told.{alterations-listed, adds-listed, omits-listed}
 use Rattle.descriptors.specs.Descriptors.{descriptorOf}
-use Rattle.inference.specs.Prefixes.{prefixText, addWhere}
-use Rattle.inference.specs.Described.{modifierWord, headOf, addPartsOf, partsOf, Small}
+use Rattle.inference.specs.private.Prefixes.{prefixText, addWhere}
+use Rattle.inference.specs.private.Described.{modifierWord, headOf, addPartsOf, partsOf, Small}
 
 packed-where : (b : Bool) (t : List ℕ) → cond b (packed t) 0 ≡ packed (cond b t [])
 unfolding low packed
@@ -60,18 +61,17 @@ adds-found s =
     let n = Tested.nineOf (suffixQuality s) (intervalsOf s) in
     ap₂ (λ (x y : List ℕ). worded x (intervalsIn (bitXor a n)) ++ worded y (intervalsIn (setOf (lastAdd s)))) (prefix-where (eqb n 0 || not (eqb (bitAnd a 16384) 0))) (prefix-where (eqb a 0))
 
-module _ (s : ℕ) (small : s < 4096) (odd : s % 2 ≡ 1) where
-  pub parts-told : partsOf (descriptorOf s) ≡ parts s
-  unfolding descriptorOf parts
-  parts-told = rw (alterations-listed s small odd, adds-found s ∙ written-adds s small odd, omits-listed s small odd)
+pub parts-told : (s : ℕ) → isRooted s ≡ true → partsOf (descriptorOf s) ≡ parts s
+unfolding descriptorOf parts
+parts-told s is = rw (alterations-listed s is, adds-found s ∙ adds-listed s is, omits-listed s is)
 
-  pub small-told : Small (descriptorOf s)
-  unfolding descriptorOf
-  small-told =
-      record {
-        alterations = alterations-small s small odd;
-        adds = adds-small s small odd;
-        nine = only-small (nine (suffixQuality s) (addsOf (suffixQuality s) (intervalsOf s)));
-        third = last-small s;
-        omits = omits-small s;
-      }
+pub small-told : (s : ℕ) → Small (descriptorOf s)
+unfolding descriptorOf
+small-told s =
+    record {
+      alterations = set-small _;
+      adds = set-small _;
+      nine = set-small _;
+      third = set-small _;
+      omits = set-small _;
+    }

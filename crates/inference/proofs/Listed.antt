@@ -15,7 +15,7 @@ use borrow.Author.Tests.{eq-eqb, ne-eqb}
 use Rattle.answer.specs.Words.{bytes, packed, placeAfter, putAt}
 use Rattle.rules.specs.Suffix.{listed, close, parenthesized}
 use Rattle.answer.specs.Written.{Writes}
-use Rattle.answer.proofs.Writing.{nothing, also, put-short}
+use Rattle.answer.proofs.Writing.{also, put-short, Puts, no-puts, then-puts}
 use Rattle.inference.proofs.Texts.{closing-short}
 
 listed-behind : (P Q : List (List ℕ)) → listed false (P ++ Q) ≡ listed false P ++ listed false Q
@@ -46,20 +46,17 @@ ended start r (p ∷ ps) e =
     ap (λ (b : Bool). cond b [] (bytes ")")) (ne-eqb r start far)
 
 pub record Listing (l₀ : List ℕ) (start : ℕ) (P : List (List ℕ)) (r : ℕ) (l : List ℕ) : Type 0 where
-  pub wrote : Writes l₀ start (listed true P) r l
-  pub same : length l ≡ length l₀
+  pub puts : Puts l₀ start (listed true P) r l
 
 pub no-parts : (l : List ℕ) (start : ℕ) → Listing l start [] start l
 unfolding listed
-no-parts l start = record { wrote = nothing l start; same = refl }
+no-parts l start = record { puts = no-puts l start }
 
 pub then-parts : {l₀ l l′ : List ℕ} {start r r′ : ℕ} {P : List (List ℕ)} → Listing l₀ start P r l → (Q : List (List ℕ))
     → Writes l r (listed (eqb r start) Q) r′ l′ → length l′ ≡ length l → Listing l₀ start (P ++ Q) r′ l′
 then-parts {l₀} {l} {l′} {start} {r} {r′} {P} p Q w kept =
-    record {
-      wrote = subst (λ (x : List ℕ). Writes l₀ start x r′ l′) (more start r P Q (p .wrote .place)) (also (p .wrote) w);
-      same = kept ∙ p .same;
-    }
+    let all = then-puts (p .puts) (record { wrote = w; same = kept }) in
+    record { puts = subst (λ (x : List ℕ). Puts l₀ start x r′ l′) (more start r P Q (p .puts .wrote .place)) all }
 
 -- parts at the front are no longer than the whole
 front : (P R : List (List ℕ)) → length (listed true P) ≤ length (parenthesized (P ++ R))
@@ -71,9 +68,9 @@ front P R =
 pub fits : {l₀ l : List ℕ} {start r : ℕ} {P : List (List ℕ)} → Listing l₀ start P r l → (Q R W : List (List ℕ)) → P ++ Q ++ R ≡ W
     → start + length (parenthesized W) + 8 ≤ length l₀ → r + length (listed (eqb r start) Q) + 8 ≤ length l
 fits {l₀} {l} {start} {r} {P} p Q R W e room =
-    let sum = sym (length-append (listed true P) (listed (eqb r start) Q)) ∙ ap length (more start r P Q (p .wrote .place)) in
+    let sum = sym (length-append (listed true P) (listed (eqb r start) Q)) ∙ ap length (more start r P Q (p .puts .wrote .place)) in
     let short = subst (λ (x : List (List ℕ)). length (listed true (P ++ Q)) ≤ length (parenthesized x)) e (front (P ++ Q) R) in
-    omega (arith, p .wrote .place, p .same)
+    omega (arith, p .puts .wrote .place, p .puts .same)
 
 pub closed : {l₀ l : List ℕ} {start r : ℕ} {P : List (List ℕ)} → Listing l₀ start P r l → (word r′ : ℕ) (l′ : List ℕ)
     → word ≡ packed (cond (eqb r start) [] (bytes ")")) → start + length (parenthesized P) + 8 ≤ length l₀
@@ -81,8 +78,8 @@ pub closed : {l₀ l : List ℕ} {start r : ℕ} {P : List (List ℕ)} → Listi
 unfolding parenthesized
 closed {l₀} {l} {start} {r} {P} p word r′ l′ e room told =
     let sum = length-append (listed true P) (close P) in
-    let put = put-short (cond (eqb r start) [] (bytes ")")) (closing-short (eqb r start)) l r word r′ l′ e (omega (arith, p .wrote .place, p .same)) told in
-    subst (λ (x : List ℕ). Writes l₀ start (listed true P ++ x) r′ l′) (ended start r P (p .wrote .place)) (also (p .wrote) put)
+    let put = put-short (cond (eqb r start) [] (bytes ")")) (closing-short (eqb r start)) l r word r′ l′ e (omega (arith, p .puts .wrote .place, p .puts .same)) told in
+    subst (λ (x : List ℕ). Writes l₀ start (listed true P ++ x) r′ l′) (ended start r P (p .puts .wrote .place)) (also (p .puts .wrote) put)
 
 pub starts-before : {l₀ l : List ℕ} {start r : ℕ} {P : List (List ℕ)} → Listing l₀ start P r l → start ≤ r
-starts-before {l₀} {l} {start} {r} {P} p = omega (arith, p .wrote .place)
+starts-before {l₀} {l} {start} {r} {P} p = omega (arith, p .puts .wrote .place)

@@ -16,7 +16,7 @@ use Rattle.rules.specs.Stack.{isOneOf}
 use Rattle.rules.specs.Heading.{wording, orElse, showsModifier, modified}
 use Rattle.inference.specs.declared.wording.Prefix.{Prefix}
 use Rattle.inference.specs.declared.wording.Prefix.the-variants as Prefixes
-use Rattle.inference.specs.Prefixes.{prefixText}
+use Rattle.inference.specs.private.Prefixes.{prefixText}
 
 pub notation-short : (i : Interval) → T (isShort (notationOf i))
 unfolding bytes areBytes isShort

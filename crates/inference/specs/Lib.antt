@@ -1,3 +1,2 @@
-pub mod Prefixes
+pub mod private
 pub mod Puts
-pub mod Described

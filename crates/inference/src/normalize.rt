@@ -29,9 +29,9 @@ ghost use Rattle.answer.specs.Written.{Writes};
 ghost use Rattle.intervals.specs.Intervals.{numbered};
 ghost use Rattle.rules.specs.Classes.{intervalsIn};
 ghost use Rattle.rules.specs.Suffix.{worded, listed, parenthesized, suffixReply};
-ghost use Rattle.inference.specs.Prefixes.{prefixText, part};
+ghost use Rattle.inference.specs.private.Prefixes.{prefixText, part};
 ghost use Rattle.inference.specs.Puts.{PutsSuffix};
-ghost use Rattle.inference.specs.Described.{headOf, partsOf, Small};
+ghost use Rattle.inference.specs.private.Described.{headOf, partsOf, Small};
 
 // The longest that a suffix can be.
 const LONGEST: usize = 64;

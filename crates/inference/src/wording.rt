@@ -5,8 +5,8 @@ ghost use mathlib.Core.Bool.{cond};
 ghost use mathlib.Core.List.{[]};
 ghost use Rattle.answer.specs.Words.{bytes, packed};
 ghost use Rattle.rules.specs.Heading.{orElse};
-ghost use Rattle.inference.specs.Prefixes.{prefixText, addWhere};
-ghost use Rattle.inference.specs.Described.{modifierWord};
+ghost use Rattle.inference.specs.private.Prefixes.{prefixText, addWhere};
+ghost use Rattle.inference.specs.private.Described.{modifierWord};
 
 const NOTHING: u64 = 0;
 

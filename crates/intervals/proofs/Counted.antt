@@ -33,7 +33,7 @@ digit-of s k = by-case (has s k) refl
     by-case true e = sym (held s k e)
     by-case false e = sym (absent s k e)
 
-count-ones : (n s : ℕ) → countBelow n s ≡ onesIn n s
+count-ones : (n s : ℕ) → countBelow (has s) n ≡ onesIn n s
 unfolding countBelow onesIn
 count-ones zero s = refl
 count-ones (suc n) s = ap₂ _+_ (digit-of s n) (count-ones n s) ∙ add-comm (s / 2 ^ n % 2) (onesIn n s) ∙ sym (ones-top n s)

@@ -15,7 +15,7 @@ use lib.Dec.{T, eqb}
 use borrow.Author.Tests.{eqb-true, eqb-false, eq-eqb, ne-eqb, not-true}
 use Rattle.answer.proofs.Tests.{left, right, is-true}
 use Rattle.intervals.specs.Sets.{has, hasAll, hasNone, bits}
-use Rattle.intervals.proofs.Members.{missing, only, alone, joined, joined-has, or-digit}
+use Rattle.intervals.proofs.Members.{missing, only, alone, joined, joined-has, with-fresh, or-digit}
 
 -- the digit of a bitwise and
 and-digit : (a b : ℕ) → bitAnd a b % 2 ≡ min (a % 2) (b % 2)
@@ -109,6 +109,10 @@ module _ (k : ℕ) (more : List ℕ) (t : T (once (k ∷ more))) where
   unfolding once
   first-once = not-true (has (bits more) k) (is-true _ (left (not (has (bits more) k)) (once more) t))
 
+  -- so that it is one number more
+  bits-more : bits (k ∷ more) ≡ 2 ^ k + bits more
+  bits-more = with-fresh k (bits more) first-once ∙ add-comm (bits more) (2 ^ k)
+
   rest-once : T (once more)
   unfolding once
   rest-once = right (not (has (bits more) k)) (once more) t
@@ -119,13 +123,14 @@ unfolding hasNone
 kept s [] t = ap (λ (x : ℕ). eqb x 0) (and-zero-r s)
 kept s (k ∷ away) t =
     let none : has 0 k ≡ false = missing 0 k (ap (λ (x : ℕ). x % 2) (zero-div (2 ^ k))) in
-    kept-more s (bits away) 0 k (first-once k away t) none ∙ ap (_&&_ (not (has s k))) (kept s away (rest-once k away t))
+    ap (λ (m : ℕ). eqb (bitAnd s m) 0) (bits-more k away t) ∙ kept-more s (bits away) 0 k (first-once k away t) none ∙ ap (_&&_ (not (has s k))) (kept s away (rest-once k away t))
 
 pub masked : (s : ℕ) (here away : List ℕ) → T (once here) → T (once (here ++ away))
     → eqb (bitAnd s (bits (here ++ away))) (bits here) ≡ hasAll s here && hasNone s away
 unfolding hasAll
 masked s [] away h t = kept s away t
 masked s (k ∷ here) away h t =
-    asked-more s (bits (here ++ away)) (bits here) k (first-once k (here ++ away) t) (first-once k here h)
+    ap₂ (λ (m w : ℕ). eqb (bitAnd s m) w) (bits-more k (here ++ away) t) (bits-more k here h)
+    ∙ asked-more s (bits (here ++ away)) (bits here) k (first-once k (here ++ away) t) (first-once k here h)
     ∙ ap (_&&_ (has s k)) (masked s here away (rest-once k here h) (rest-once k (here ++ away) t))
     ∙ sym (and-assoc (has s k) (hasAll s here) (hasNone s away))

@@ -6,11 +6,14 @@
 --     joined-less     the set stays below the same power of two
 --     joined-ones     it has one class more
 --     joined-has      and that class beside its own
+--     with-held, with-fresh, with-has, with-less     the same of a class that it may have had
+--     bits-has        a number is in the set of a list where it is in the list
 --     taken-has       a set with a class taken out that it had: it has the others
 use mathlib.Core.Path.{_≡_, refl, sym, ap, ap₂, subst, _∙_}
 use mathlib.Core.Bool.{Bool, true, false, not, cond, _&&_, _||_, and-true}
+use mathlib.Core.List.{List, [], _∷_}
 use Prim.Native.Nat.{ℕ, zero, suc, _+_, _-_, _*_, _/_, _%_, _^_, _<_, _≤_, max}
-use native.Mathlib.Nat.{div-add-mod', mod-lt, max-le, max-zero, max-eq-right, add-mul, one-mul, zero-add, suc-add, add-sub-of-le, div-self, div-eq-of-lt, mul-div-cancel-left, mul-mod-left, pow-suc, add-div-right}
+use native.Mathlib.Nat.{div-add-mod', mod-lt, max-le, max-zero, max-eq-right, add-mul, one-mul, zero-add, suc-add, add-sub-of-le, div-self, div-eq-of-lt, mul-div-cancel-left, mul-mod-left, pow-suc, add-div-right, zero-div}
 use native.Mathlib.Decide.{decLe}
 use native.Mathlib.Numerals.{one-add}
 use native.Mathlib.Omega.{arith}
@@ -19,7 +22,7 @@ use lib.Count.{ones, ones-step, ones-cat}
 use lib.Dec.{eqb}
 use lib.Pow.{pow-pos, pow-lt, pow-add}
 use borrow.Author.Tests.{eqb-true, eqb-false, eq-eqb, ne-eqb}
-use Rattle.intervals.specs.Sets.{has}
+use Rattle.intervals.specs.Sets.{has, withMember, bits, isIn}
 
 pub held : (s c : ℕ) → has s c ≡ true → s / 2 ^ c % 2 ≡ 1
 unfolding has
@@ -126,6 +129,40 @@ joined-has s c no-class k =
     ∙ ap (λ (x : ℕ). eqb (x % 2) 1) (or-shr s (2 ^ c) k)
     ∙ ap (λ (x : ℕ). eqb x 1) (or-digit (s / 2 ^ k) (2 ^ c / 2 ^ k) ∙ ap (max (s / 2 ^ k % 2)) (pow-digit c k))
     ∙ either (s / 2 ^ k % 2) (eqb k c) (omega arith)
+
+-- what is in a set with a number put in, and how large it is
+module _ (k s : ℕ) where
+  pub with-held : has s k ≡ true → withMember k s ≡ s
+  unfolding has
+  with-held e = ap (λ (b : Bool). cond b s (s + 2 ^ k)) e
+
+  pub with-fresh : has s k ≡ false → withMember k s ≡ s + 2 ^ k
+  unfolding has
+  with-fresh e = ap (λ (b : Bool). cond b s (s + 2 ^ k)) e
+
+  pub with-has : (j : ℕ) → has (withMember k s) j ≡ eqb j k || has s j
+  with-has j = by-case (has s k) refl
+    where
+      its-own : has s k ≡ true → (b : Bool) → eqb j k ≡ b → has s j ≡ b || has s j
+      its-own e true same = ap (has s) (eqb-true j k same) ∙ e
+      its-own e false other = refl
+
+      by-case : (b : Bool) → has s k ≡ b → has (withMember k s) j ≡ eqb j k || has s j
+      by-case true e = ap (λ (x : ℕ). has x j) (with-held e) ∙ its-own e (eqb j k) refl
+      by-case false e = ap (λ (x : ℕ). has x j) (with-fresh e) ∙ joined-has s k e j
+
+  pub with-less : (n : ℕ) → s < 2 ^ n → k < n → withMember k s < 2 ^ n
+  with-less n h l = by-case (has s k) refl
+    where
+      by-case : (b : Bool) → has s k ≡ b → withMember k s < 2 ^ n
+      by-case true e = subst (λ (x : ℕ). x < 2 ^ n) (sym (with-held e)) h
+      by-case false e = subst (λ (x : ℕ). x < 2 ^ n) (sym (with-fresh e)) (joined-less s k e n h (pow-lt l))
+
+-- the set of a list has its members, and no others
+pub bits-has : (l : List ℕ) (k : ℕ) → has (bits l) k ≡ isIn k l
+unfolding isIn
+bits-has [] k = missing 0 k (ap (λ (x : ℕ). x % 2) (zero-div (2 ^ k)))
+bits-has (j ∷ more) k = with-has j (bits more) k ∙ ap (_||_ (eqb k j)) (bits-has more k)
 
 -- a set with a class taken out: its digit there is the one that goes, and the class put back makes the set
 module _ (s c : ℕ) (class : has s c ≡ true) where

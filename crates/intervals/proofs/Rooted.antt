@@ -2,14 +2,19 @@
 --     rooted-test      the two tests as the code has them
 --     is-rooted        a number that passes them is a rooted set
 --     rooted-small, rooted-odd      and a rooted set passes them
-use mathlib.Core.Path.{_≡_, ap, sym, _∙_}
+--     rooted-count     2,048 numbers are rooted sets
+--     at-rooted        a test that passes at each of them passes at one
+--     by-halves        the same, of two computed tests, for what is too much for one
+use mathlib.Core.Path.{_≡_, refl, ap, sym, subst, _∙_}
 use mathlib.Core.Bool.{Bool, true, _&&_}
-use Prim.Native.Nat.{ℕ, _%_, _≤_}
+use Prim.Native.Nat.{ℕ, _+_, _-_, _*_, _/_, _%_, _≤_}
 use native.Mathlib.Nat.{div-one}
-use lib.Dec.{eqb, leb, eqb→eq, leb→le}
+use native.Mathlib.Decide.{decLe}
+use native.Mathlib.Omega.{arith}
+use lib.Dec.{T, eqb, leb, eqb→eq, leb→le}
 use borrow.Author.Tests.{eq-eqb, le-leb}
-use Rattle.answer.proofs.Tests.{left, right, said}
-use Rattle.intervals.specs.Sets.{isSet, has, isRooted}
+use Rattle.answer.proofs.Tests.{left, right, said, all, at}
+use Rattle.intervals.specs.Sets.{isSet, has, isRooted, countBelow}
 
 pub rooted-test : (s : ℕ) → leb s 4095 && eqb (s % 2) 1 ≡ isRooted s
 unfolding isSet has isRooted
@@ -24,3 +29,36 @@ module _ (s : ℕ) (is : isRooted s ≡ true) where
 
   pub rooted-odd : s % 2 ≡ 1
   rooted-odd = eqb→eq (s % 2) 1 (right (leb s 4095) (eqb (s % 2) 1) (said _ (rooted-test s ∙ is)))
+
+-- the paper's 2,048
+pub rooted-count : countBelow isRooted 4096 ≡ 2048
+unfolding isSet has isRooted countBelow
+rooted-count = refl
+
+-- the rooted set at a place among them
+abbrev pub rooted : ℕ → ℕ
+rooted h = h * 2 + 1
+
+pub at-rooted : (f : ℕ → Bool) → T (all (λ h. f (rooted h)) 2048) → (s : ℕ) → isRooted s ≡ true → T (f s)
+at-rooted f t s is =
+    let small = rooted-small s is in
+    let odd = rooted-odd s is in
+    let there : s / 2 * 2 + 1 ≡ s = omega arith in
+    subst (λ (x : ℕ). T (f x)) there (at (λ h. f (rooted h)) 2048 t (s / 2) (omega arith))
+
+pub by-halves : (f : ℕ → Bool) → T (all (λ h. f (rooted h)) 1024) → T (all (λ h. f (rooted (1024 + h))) 1024) → (s : ℕ) → isRooted s ≡ true → T (f s)
+by-halves f low high s is = by-order (decLe 1024 (s / 2))
+  where
+    small : s ≤ 4095
+    small = rooted-small s is
+
+    odd : s % 2 ≡ 1
+    odd = rooted-odd s is
+
+    by-order : Dec (1024 ≤ s / 2) → T (f s)
+    by-order (yes h) =
+        let there : (1024 + (s / 2 - 1024)) * 2 + 1 ≡ s = omega (arith, odd) in
+        subst (λ (x : ℕ). T (f x)) there (at (λ h. f (rooted (1024 + h))) 1024 high (s / 2 - 1024) (omega (arith, small)))
+    by-order (no h) =
+        let there : s / 2 * 2 + 1 ≡ s = omega (arith, odd) in
+        subst (λ (x : ℕ). T (f x)) there (at (λ h. f (rooted h)) 1024 low (s / 2) (omega arith))

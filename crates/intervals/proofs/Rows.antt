@@ -1,18 +1,28 @@
 -- Laws of the table of intervals.
 --     told          the row of an interval tells of it
 --     past          a number past the last interval names none
-use mathlib.Core.Path.{_≡_, refl, sym, ap}
-use mathlib.Core.List.{List, [], _∷_}
-use Prim.Native.Nat.{ℕ, zero, suc, _≤_, _<_}
+--     at-interval   a test that passes at each interval passes at one
+--     numbered-back, numbered-none, number-small, set-small     an interval's number names it, is below 23, and so a set of intervals below 2 ^ 23
+use mathlib.Core.Path.{_≡_, refl, sym, ap, subst, _∙_}
+use mathlib.Core.Bool.{Bool, true, false, true≢false}
+use mathlib.Core.List.{List, [], _∷_, map}
+use Prim.Native.Nat.{ℕ, zero, suc, _^_, _≤_, _<_}
+use native.Mathlib.Decide.{decLe}
 use native.Mathlib.Nat.{le-of-suc-le-suc, not-suc-le-zero}
 use native.Mathlib.Omega.{arith}
+use lib.Dec.{T, lit<}
 use lib.ListN.{length}
 use Rattle.answer.specs.Words.{packed}
 use Rattle.answer.proofs.Arms.{Nones, nones}
-use Rattle.intervals.specs.Intervals.{Tells, intervals, nth, numbered, numberOf, semitonesOf, degreeOf, toDegreeOf, notationOf}
+use Rattle.answer.proofs.Tests.{all, at}
+use Rattle.intervals.specs.Intervals.{Tells, intervals, nth, numbered, numberOf, setOf, semitonesOf, degreeOf, toDegreeOf, notationOf}
+use Rattle.intervals.specs.Sets.{bits}
 use Rattle.intervals.specs.declared.interval.Interval.{Interval}
+use Rattle.intervals.specs.declared.interval.Interval.the-variants.{Unison, MinorSecond, MajorSecond, MinorThird, MajorThird, PerfectFourth, AugmentedFourth, DiminishedFifth, PerfectFifth, AugmentedFifth, MinorSixth, MajorSixth, DiminishedSeventh, MinorSeventh, MajorSeventh, Octave, FlatNinth, Ninth, SharpNinth, Eleventh, SharpEleventh, FlatThirteenth, Thirteenth}
 use Rattle.intervals.specs.declared.interval.About.{About}
-use Rattle.intervals.specs.declared.interval.Numbered.the-variants.{Nothing}
+use Rattle.intervals.specs.declared.interval.Numbered.{Numbered}
+use Rattle.intervals.specs.declared.interval.Numbered.the-variants.{Is, Nothing}
+use Rattle.intervals.proofs.Members.{with-less}
 
 -- an interval's row
 abbrev pub rowFor : Interval → About
@@ -37,3 +47,58 @@ nth-past (i ∷ more) (suc n) h = nth-past more n (le-of-suc-le-suc h)
 pub past : (n : ℕ) → Nones n 23 → numbered n ≡ Nothing
 unfolding numbered intervals
 past n none = let no-less : ¬ (n < 23) = nones n 23 none in nth-past intervals n (omega arith)
+
+pub numbered-back : (i : Interval) → numbered (numberOf i) ≡ Is i
+unfolding intervals nth numbered
+numbered-back Unison = refl
+numbered-back MinorSecond = refl
+numbered-back MajorSecond = refl
+numbered-back MinorThird = refl
+numbered-back MajorThird = refl
+numbered-back PerfectFourth = refl
+numbered-back AugmentedFourth = refl
+numbered-back DiminishedFifth = refl
+numbered-back PerfectFifth = refl
+numbered-back AugmentedFifth = refl
+numbered-back MinorSixth = refl
+numbered-back MajorSixth = refl
+numbered-back DiminishedSeventh = refl
+numbered-back MinorSeventh = refl
+numbered-back MajorSeventh = refl
+numbered-back Octave = refl
+numbered-back FlatNinth = refl
+numbered-back Ninth = refl
+numbered-back SharpNinth = refl
+numbered-back Eleventh = refl
+numbered-back SharpEleventh = refl
+numbered-back FlatThirteenth = refl
+numbered-back Thirteenth = refl
+
+pub numbered-none : numbered 23 ≡ Nothing
+unfolding intervals nth numbered
+numbered-none = refl
+
+abbrev isSome : Numbered → Bool
+isSome (Is i) = true
+isSome Nothing = false
+
+pub number-small : (i : Interval) → numberOf i < 23
+unfolding numbered intervals
+number-small i = by-order (decLe 23 (numberOf i))
+  where
+    by-order : Dec (23 ≤ numberOf i) → numberOf i < 23
+    by-order (yes h) = absurd (true≢false (ap isSome (sym (numbered-back i) ∙ nth-past intervals (numberOf i) h)))
+    by-order (no h) = omega arith
+
+-- a test of one interval, of what a number names
+abbrev pub ofNumbered : (Interval → Bool) → Numbered → Bool
+ofNumbered f (Is i) = f i
+ofNumbered f Nothing = true
+
+pub at-interval : (f : Interval → Bool) → T (all (λ n. ofNumbered f (numbered n)) 23) → (i : Interval) → T (f i)
+at-interval f t i = subst (λ (m : Numbered). T (ofNumbered f m)) (numbered-back i) (at (λ n. ofNumbered f (numbered n)) 23 t (numberOf i) (number-small i))
+
+pub set-small : (found : List Interval) → setOf found < 2 ^ 23
+unfolding setOf
+set-small [] = lit< tt
+set-small (i ∷ more) = with-less (numberOf i) (bits (map numberOf more)) 23 (set-small more) (number-small i)

@@ -27,19 +27,23 @@ unfoldable pub hasNone : ℕ → List ℕ → Bool
 hasNone s [] = true
 hasNone s (k ∷ more) = not (has s k) && hasNone s more
 
--- of the classes below n
-unfoldable pub countBelow : ℕ → ℕ → ℕ
-countBelow zero s = 0
-countBelow (suc n) s = cond (has s n) 1 0 + countBelow n s
+-- how many of the numbers below n pass a test
+unfoldable pub countBelow : (ℕ → Bool) → ℕ → ℕ
+countBelow test zero = 0
+countBelow test (suc n) = cond (test n) 1 0 + countBelow test n
 
 -- how many classes are in the set
 unfoldable pub classCount : ℕ → ℕ
-classCount s = countBelow 12 s
+classCount s = countBelow (has s) 12
+
+-- a set with a number put in, once
+abbrev pub withMember : ℕ → ℕ → ℕ
+withMember k s = cond (eqb (s / 2 ^ k % 2) 1) s (s + 2 ^ k)
 
 -- the set of the numbers of a list
 abbrev pub bits : List ℕ → ℕ
 bits [] = 0
-bits (k ∷ more) = 2 ^ k + bits more
+bits (k ∷ more) = withMember k (bits more)
 
 -- a number is in a list
 unfoldable pub isIn : ℕ → List ℕ → Bool

@@ -19,7 +19,8 @@ use lib.ListN.{length}
 use borrow.Author.Tests.{eq-eqb, eqb-true, lt-ltb}
 use Rattle.answer.specs.Words.{same}
 use Rattle.answer.proofs.Tests.{said, same→eq, eq→same}
-use Rattle.intervals.specs.Sets.{isIn}
+use Rattle.intervals.specs.Sets.{isIn, isRooted}
+use Rattle.intervals.proofs.Rooted.{is-rooted, rooted-small, rooted-odd}
 use Rattle.rules.specs.Suffix.{suffixOf, reached}
 use Rattle.rules.proofs.Short.{suffix-reached}
 use Rattle.listing.specs.Listing.{matching, setsOf, inBytes, listingOf}
@@ -89,42 +90,46 @@ matching-rising t (suc n) k = by-case (same t (suffixOf k)) (matching-rising t n
     by-case false more = more
 
 module _ (t : List ℕ) (s : ℕ) where
-  pub sound : isIn s (setsOf t) ≡ true → (s < 4096) × (s % 2 ≡ 1) × (suffixOf s ≡ t)
+  pub sound : isIn s (setsOf t) ≡ true → (isRooted s ≡ true) × (suffixOf s ≡ t)
   unfolding setsOf
-  sound e = let m = matching-sound t 2048 1 s refl e in (omega (arith, m .1, m .2), m .2, sym (same→eq t (suffixOf s) (said _ (m .3))))
+  sound e =
+      let m = matching-sound t 2048 1 s refl e in
+      (is-rooted s (omega (arith, m .1, m .2)) (m .2), sym (same→eq t (suffixOf s) (said _ (m .3))))
 
-  pub complete : s < 4096 → s % 2 ≡ 1 → suffixOf s ≡ t → isIn s (setsOf t) ≡ true
+  pub complete : isRooted s ≡ true → suffixOf s ≡ t → isIn s (setsOf t) ≡ true
   unfolding setsOf
-  complete small odd e =
-      matching-complete t 2048 1 s refl (omega (arith, odd), omega arith, odd, ap (same t) e ∙ eq→same t)
+  complete is e =
+      let small = rooted-small s is in
+      let odd = rooted-odd s is in
+      matching-complete t 2048 1 s refl (omega arith, omega arith, odd, ap (same t) e ∙ eq→same t)
 
 pub rising : (t : List ℕ) → isRising (setsOf t) ≡ true
 unfolding setsOf
 rising t = matching-rising t 2048 1
 
-pub none-listed : (t : List ℕ) → setsOf t ≡ [] → (s : ℕ) → s < 4096 → s % 2 ≡ 1 → suffixOf s ≡ t → ⊥
+pub none-listed : (t : List ℕ) → setsOf t ≡ [] → (s : ℕ) → isRooted s ≡ true → suffixOf s ≡ t → ⊥
 unfolding isIn
-none-listed t e s small odd is = untrue (ap (isIn s) (sym e) ∙ complete t s small odd is)
+none-listed t e s is has = untrue (ap (isIn s) (sym e) ∙ complete t s is has)
 
-pub nothing-listed : (t : List ℕ) → ((s : ℕ) → s < 4096 → s % 2 ≡ 1 → suffixOf s ≡ t → ⊥) → setsOf t ≡ []
+pub nothing-listed : (t : List ℕ) → ((s : ℕ) → isRooted s ≡ true → suffixOf s ≡ t → ⊥) → setsOf t ≡ []
 unfolding isIn
-nothing-listed t none = by-list (setsOf t) (λ s e. let m = sound t s e in none s (m .0) (m .1) (m .2))
+nothing-listed t none = by-list (setsOf t) (λ s e. let m = sound t s e in none s (m .0) (m .1))
   where
     by-list : (l : List ℕ) → ((s : ℕ) → isIn s l ≡ true → ⊥) → l ≡ []
     by-list [] no-way = refl
     by-list (x ∷ more) no-way = absurd (no-way x (ap (λ (b : Bool). b || isIn x more) (eq-eqb x x refl)))
 
-pub own-list : (s : ℕ) → s < 4096 → s % 2 ≡ 1 → isIn s (setsOf (suffixOf s)) ≡ true
-own-list s small odd = complete (suffixOf s) s small odd refl
+pub own-list : (s : ℕ) → isRooted s ≡ true → isIn s (setsOf (suffixOf s)) ≡ true
+own-list s is = complete (suffixOf s) s is refl
 
 pub one-list : (t : List ℕ) (s : ℕ) → isIn s (setsOf t) ≡ true → t ≡ suffixOf s
-one-list t s e = sym (sound t s e .2)
+one-list t s e = sym (sound t s e .1)
 
 pub long-listing : (t : List ℕ) → reached < length t → listingOf t ≡ []
 unfolding listingOf inBytes
 long-listing t long =
     ap inBytes
-    (nothing-listed t (λ s small odd e. let no-way : ⊥ = omega (arith, suffix-reached s small odd, ap length e) in no-way))
+    (nothing-listed t (λ s is e. let no-way : ⊥ = omega (arith, suffix-reached s is, ap length e) in no-way))
 
 bytes-length : (l : List ℕ) → length (inBytes l) ≡ 2 * length l
 unfolding inBytes

@@ -5,21 +5,15 @@
 use mathlib.Core.Path.{_≡_, refl, sym, ap, _∙_}
 use mathlib.Core.Bool.{Bool, true, false, cond, _&&_}
 use mathlib.Core.List.{List, [], _∷_}
-use Prim.Native.Nat.{ℕ, zero, suc, _+_, _*_, _<_, _≤_}
+use Prim.Native.Nat.{ℕ, zero, suc, _+_, _*_, _≤_}
 use native.Mathlib.Omega.{arith}
 use lib.Dec.{T, eqb, ltb, ltb→lt}
 use lib.ListN.{length}
 use borrow.Author.Tests.{eq-eqb, ne-eqb, eqb-true, eqb-false, lt-ltb, ltb-false}
-use Rattle.answer.specs.Words.{bytes, same, low}
+use Rattle.answer.specs.Words.{same, low}
 use Rattle.answer.proofs.Tests.{left, right, said, same→eq}
-use Rattle.intervals.specs.Sets.{has, hasAll, hasNone, classCount, countBelow}
-use Rattle.intervals.specs.Intervals.{intervals, setOf}
-use Rattle.qualities.specs.Qualities.{qualityOf}
-use Rattle.rules.specs.Classes.{among, keep, only, atOnce, third, fourth, sixth, fifth, intervalsIn, intervalsOf}
-use Rattle.rules.specs.Parts.{hasThird, withThird, suffixQuality, isSus, within, alterationsOf, sixthAs13, extensionsOf, lastAdd, omitThird, omitFifth}
-use Rattle.rules.specs.Stack.{degreesOf, isDegree, reaches, isStacked, lastOf, modifierOf, isOwn, isAdd, addsOf}
-use Rattle.rules.specs.Heading.{nine, heading, sus}
-use Rattle.rules.specs.Suffix.{worded, addParts, parts, listed, close, parenthesized, suffixOf}
+use Rattle.rules.specs.Suffix.{suffixOf}
+use Rattle.rules.proofs.Computed.{suffix-computed}
 use Rattle.listing.specs.Listing.{matching, setsOf, listingOf, mostShared}
 use Rattle.listing.proofs.Laws.{two-bytes}
 
@@ -52,7 +46,7 @@ suffixes zero s = []
 suffixes (suc n) s = low (suffixOf s) ∷ suffixes n (s + 2)
 
 all-few : T (few 40 (suffixes 2048 1))
-unfolding count those few suffixes low bytes has hasAll hasNone classCount countBelow qualityOf intervals among keep only atOnce third fourth sixth fifth setOf intervalsIn intervalsOf hasThird withThird suffixQuality isSus within alterationsOf sixthAs13 extensionsOf degreesOf isDegree reaches isStacked lastOf modifierOf isOwn isAdd addsOf lastAdd omitThird omitFifth nine worded addParts parts listed close parenthesized heading sus suffixOf
+unfolding suffix-computed count those few suffixes low
 all-few = tt
 
 -- a number that passes the test stands among those as often

@@ -4,12 +4,14 @@ use answer::output::give;
 use inference::normalize::ROOM as SUFFIX_ROOM;
 use inference::normalize::put_suffix;
 ghost use mathlib.Core.Path.{_≡_};
+ghost use mathlib.Core.Bool.{true};
 ghost use mathlib.Core.List.{[], _∷_};
 ghost use Prim.Native.Nat.{_+_, _/_, _%_, _<_, _≤_};
 ghost use lib.ListN.{length};
 ghost use Rattle.answer.specs.Replies.{text, Answered};
 ghost use Rattle.answer.specs.Words.{same};
 ghost use Rattle.answer.specs.Written.{Writes};
+ghost use Rattle.intervals.specs.Sets.{isRooted};
 ghost use Rattle.rules.specs.Suffix.{suffixOf};
 ghost use Rattle.listing.specs.Listing.{listingOf};
 
@@ -52,7 +54,7 @@ fn search(name: &[u8], found: &mut [u8]) -> usize
 }
 
 fn is_suffix(name: &[u8], set: u32) -> bool
-    requires { ⌜ (set < 4096) × (set % 2 ≡ 1) ⌝ }
+    requires { ⌜ isRooted set ≡ true ⌝ }
     ensures { λ r. ⌜ r ≡ same (now (name .entry)) (suffixOf set) ⌝ }
 {
     let mut buffer = [0u8; SUFFIX_ROOM];

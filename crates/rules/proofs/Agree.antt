@@ -1,59 +1,16 @@
--- Two forms of one number agree at each set: one test that is computed, and these laws.
---     test, yes, no-then    one test of a chain, where it passes and where it does not
---     agree                 at each number below a bound
---     agree-rooted          at each rooted set
+-- Two forms of one thing agree at each number: one test that is computed, and these laws.
+--     agree                 two numbers, at each number below a bound
 --     same-bool, same-all   two Bools, and two lists of texts, are the same
-use mathlib.Core.Path.{_≡_, refl, ap, ap₂, subst}
-use mathlib.Core.Bool.{Bool, true, false, cond, not, _&&_}
+use mathlib.Core.Path.{_≡_, refl, ap₂}
+use mathlib.Core.Bool.{Bool, true, false, not, _&&_}
 use mathlib.Core.List.{List, [], _∷_}
-use Prim.Native.Nat.{ℕ, _+_, _*_, _/_, _%_, _<_}
-use native.Mathlib.Omega.{arith}
+use Prim.Native.Nat.{ℕ, _<_}
 use lib.Dec.{T, eqb, eqb→eq}
-use borrow.Author.Tests.{eq-eqb, ne-eqb}
-use Rattle.intervals.specs.declared.interval.Interval.{Interval}
-use Rattle.qualities.specs.declared.quality.ChordQuality.{ChordQuality}
-use Rattle.rules.specs.Classes.{intervalsOf}
-use Rattle.rules.specs.Parts.{suffixQuality}
 use Rattle.answer.specs.Words.{same}
 use Rattle.answer.proofs.Tests.{left, right, all, at, same→eq}
 
--- x where a is b, else y
-unfoldable pub test : {A : Type 0} → ℕ → ℕ → A → A → A
-test a b x y = cond (eqb a b) x y
-
-pub yes : {A : Type 0} (a b : ℕ) (x y : A) → a ≡ b → test a b x y ≡ x
-unfolding test
-yes {A} a b x y e = ap (λ (t : Bool). cond t x y) (eq-eqb a b e)
-
-pub no-then : {A : Type 0} (a b : ℕ) (x y : A) → (a ≡ b → ⊥) → test a b x y ≡ y
-unfolding test
-no-then {A} a b x y e = ap (λ (t : Bool). cond t x y) (ne-eqb a b e)
-
-abbrev pub same-at : (ℕ → ℕ) → (ℕ → ℕ) → ℕ → Bool
-same-at f g s = eqb (f s) (g s)
-
-pub agree : (f g : ℕ → ℕ) (n : ℕ) → T (all (same-at f g) n) → (s : ℕ) → s < n → f s ≡ g s
-agree f g n t s h = eqb→eq (f s) (g s) (at (same-at f g) n t s h)
-
-abbrev pub rooted : ℕ → ℕ
-rooted h = h * 2 + 1
-
--- a test of a rooted set, at each of the 2,048
-pub at-rooted : (f : ℕ → Bool) → T (all (λ h. f (rooted h)) 2048) → (s : ℕ) → s < 4096 → s % 2 ≡ 1 → T (f s)
-at-rooted f t s h odd =
-    let there : s / 2 * 2 + 1 ≡ s = omega arith in
-    subst (λ (x : ℕ). T (f x)) there (at (λ h. f (rooted h)) 2048 t (s / 2) (omega arith))
-
-pub agree-rooted : (f g : ℕ → ℕ) → T (all (λ h. same-at f g (rooted h)) 2048) → (s : ℕ) → s < 4096 → s % 2 ≡ 1 → f s ≡ g s
-agree-rooted f g t s h odd = eqb→eq (f s) (g s) (at-rooted (same-at f g) t s h odd)
-
--- a test of what is read off a rooted set, which is read once
-abbrev pub of-reading : (ChordQuality → List Interval → Bool) → ℕ → Bool
-of-reading f s = let i = intervalsOf s in let q = suffixQuality s in f q i
-
-pub agree-reading : (f g : ChordQuality → List Interval → ℕ) → T (all (λ h. of-reading (λ q i. eqb (f q i) (g q i)) (rooted h)) 2048)
-    → (s : ℕ) → s < 4096 → s % 2 ≡ 1 → f (suffixQuality s) (intervalsOf s) ≡ g (suffixQuality s) (intervalsOf s)
-agree-reading f g t s h odd = eqb→eq _ _ (at-rooted (of-reading (λ q i. eqb (f q i) (g q i))) t s h odd)
+pub agree : (f g : ℕ → ℕ) (n : ℕ) → T (all (λ s. eqb (f s) (g s)) n) → (s : ℕ) → s < n → f s ≡ g s
+agree f g n t s h = eqb→eq (f s) (g s) (at (λ s. eqb (f s) (g s)) n t s h)
 
 abbrev pub same-bool : Bool → Bool → Bool
 same-bool true b = b

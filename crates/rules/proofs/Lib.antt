@@ -1,7 +1,6 @@
 pub mod Agree
+pub mod Computed
 pub mod Resolved
 pub mod Tested
-pub mod Read
-pub mod Added
-pub mod Parted
+pub mod Told
 pub mod Short

@@ -2,11 +2,11 @@
 use mathlib.Core.Path.{_≡_, ap, _∙_}
 use Prim.Native.Nat.{ℕ, _*_, _/_, _%_, _<_}
 use lib.Bits.{bitAnd, bitOr, or-comm}
-use Rattle.answer.proofs.Tests.{all}
-use Rattle.intervals.specs.Sets.{has}
-use Rattle.intervals.specs.Intervals.{intervals, setOf}
-use Rattle.rules.specs.Classes.{among, keep, only, atOnce, third, fourth, sixth, fifth, intervalsIn, intervalsOf}
-use Rattle.rules.proofs.Agree.{test, agree}
+use Rattle.answer.proofs.Chosen.{test}
+use Rattle.intervals.specs.Intervals.{setOf}
+use Rattle.rules.specs.Classes.{atOnce, ofClass3, ofClass6, ofClass9, ofClass8, intervalsOf}
+use Rattle.rules.proofs.Agree.{agree}
+use Rattle.rules.proofs.Computed.{classes-computed}
 
 -- a union is computed from its last part on: `bitOr` goes through the digits of its first number
 turned : (a t f x g : ℕ) → bitOr (bitOr (bitOr (bitOr a t) f) x) g ≡ bitOr g (bitOr x (bitOr f (bitOr t a)))
@@ -29,46 +29,46 @@ once-turned s =
     (or-comm _ (s / 16 % 2 * 16) ∙ ap (bitOr (s / 16 % 2 * 16)) (or-comm _ (s / 4 % 2 * 131072) ∙ ap (bitOr (s / 4 % 2 * 131072)) (or-comm _ (s / 2 % 2 * 65536))))
 
 pub once-told : (s : ℕ) → s < 4096 → onceBits s ≡ setOf (atOnce s)
-unfolding all has only setOf atOnce
+unfolding classes-computed
 once-told s h = once-turned s ∙ agree onceTurned (λ s. setOf (atOnce s)) 4096 tt s h
 
-abbrev pub thirdBits : ℕ → ℕ
-thirdBits s = test (bitAnd s 8) 0 0 (test (bitAnd s 16) 16 262144 8)
+abbrev pub class3Bits : ℕ → ℕ
+class3Bits s = test (bitAnd s 8) 0 0 (test (bitAnd s 16) 16 262144 8)
 
-pub third-told : (r s : ℕ) → s < 4096 → r ≡ thirdBits s → r ≡ setOf (third s)
-unfolding all has among only setOf atOnce third test
-third-told r s h e = e ∙ agree thirdBits (λ s. setOf (third s)) 4096 tt s h
+pub class-3-told : (r s : ℕ) → s < 4096 → r ≡ class3Bits s → r ≡ setOf (ofClass3 s)
+unfolding classes-computed test
+class-3-told r s h e = e ∙ agree class3Bits (λ s. setOf (ofClass3 s)) 4096 tt s h
 
-abbrev pub fourthBits : ℕ → ℕ
-fourthBits s = test (bitAnd s 64) 0 0 (test (bitAnd s 128) 128 1048576 128)
+abbrev pub class6Bits : ℕ → ℕ
+class6Bits s = test (bitAnd s 64) 0 0 (test (bitAnd s 128) 128 1048576 128)
 
-pub fourth-told : (r s : ℕ) → s < 4096 → r ≡ fourthBits s → r ≡ setOf (fourth s)
-unfolding all has among only setOf atOnce fourth test
-fourth-told r s h e = e ∙ agree fourthBits (λ s. setOf (fourth s)) 4096 tt s h
+pub class-6-told : (r s : ℕ) → s < 4096 → r ≡ class6Bits s → r ≡ setOf (ofClass6 s)
+unfolding classes-computed test
+class-6-told r s h e = e ∙ agree class6Bits (λ s. setOf (ofClass6 s)) 4096 tt s h
 
-abbrev pub sixthBits : ℕ → ℕ
-sixthBits s = test (bitAnd s 512) 0 0 (test (bitAnd s 1024) 1024 4194304 (test (bitAnd s 216) 72 4096 2048))
+abbrev pub class9Bits : ℕ → ℕ
+class9Bits s = test (bitAnd s 512) 0 0 (test (bitAnd s 1024) 1024 4194304 (test (bitAnd s 216) 72 4096 2048))
 
-pub sixth-told : (r s : ℕ) → s < 4096 → r ≡ sixthBits s → r ≡ setOf (sixth s)
-unfolding all has among only setOf atOnce third fourth sixth test
-sixth-told r s h e = e ∙ agree sixthBits (λ s. setOf (sixth s)) 4096 tt s h
+pub class-9-told : (r s : ℕ) → s < 4096 → r ≡ class9Bits s → r ≡ setOf (ofClass9 s)
+unfolding classes-computed test
+class-9-told r s h e = e ∙ agree class9Bits (λ s. setOf (ofClass9 s)) 4096 tt s h
 
-abbrev pub fifthBits : ℕ → ℕ
-fifthBits s = test (bitAnd s 256) 0 0 (test (bitAnd s 1552) 16 512 (test (bitAnd s 1552) 0 1024 2097152))
+abbrev pub class8Bits : ℕ → ℕ
+class8Bits s = test (bitAnd s 256) 0 0 (test (bitAnd s 1552) 16 512 (test (bitAnd s 1552) 0 1024 2097152))
 
-pub fifth-told : (r s : ℕ) → s < 4096 → r ≡ fifthBits s → r ≡ setOf (fifth s)
-unfolding all has among only setOf atOnce third fourth sixth fifth test
-fifth-told r s h e = e ∙ agree fifthBits (λ s. setOf (fifth s)) 4096 tt s h
+pub class-8-told : (r s : ℕ) → s < 4096 → r ≡ class8Bits s → r ≡ setOf (ofClass8 s)
+unfolding classes-computed test
+class-8-told r s h e = e ∙ agree class8Bits (λ s. setOf (ofClass8 s)) 4096 tt s h
 
 abbrev allBits : ℕ → ℕ
-allBits s = bitOr (bitOr (bitOr (bitOr (setOf (atOnce s)) (setOf (third s))) (setOf (fourth s))) (setOf (sixth s))) (setOf (fifth s))
+allBits s = bitOr (bitOr (bitOr (bitOr (setOf (atOnce s)) (setOf (ofClass3 s))) (setOf (ofClass6 s))) (setOf (ofClass9 s))) (setOf (ofClass8 s))
 
 abbrev allTurned : ℕ → ℕ
-allTurned s = bitOr (setOf (fifth s)) (bitOr (setOf (sixth s)) (bitOr (setOf (fourth s)) (bitOr (setOf (third s)) (setOf (atOnce s)))))
+allTurned s = bitOr (setOf (ofClass8 s)) (bitOr (setOf (ofClass9 s)) (bitOr (setOf (ofClass6 s)) (bitOr (setOf (ofClass3 s)) (setOf (atOnce s)))))
 
 all-turned : (s : ℕ) → s < 4096 → allTurned s ≡ setOf (intervalsOf s)
-unfolding all has intervals among keep only setOf atOnce third fourth sixth fifth intervalsIn intervalsOf
+unfolding classes-computed
 all-turned = agree allTurned (λ s. setOf (intervalsOf s)) 4096 tt
 
 pub all-told : (s : ℕ) → s < 4096 → allBits s ≡ setOf (intervalsOf s)
-all-told s h = turned (setOf (atOnce s)) (setOf (third s)) (setOf (fourth s)) (setOf (sixth s)) (setOf (fifth s)) ∙ all-turned s h
+all-told s h = turned (setOf (atOnce s)) (setOf (ofClass3 s)) (setOf (ofClass6 s)) (setOf (ofClass9 s)) (setOf (ofClass8 s)) ∙ all-turned s h

@@ -3,3 +3,4 @@ pub mod Parts
 pub mod Stack
 pub mod Heading
 pub mod Suffix
+pub mod private

@@ -1,8 +1,8 @@
 -- What becomes of the extensions: paper 01, "The suffix (002, 003)", its third rule.
-use mathlib.Core.Bool.{Bool, true, false, cond, not, _&&_, _||_}
+use mathlib.Core.Bool.{Bool, true, cond, not, _&&_, _||_}
 use mathlib.Core.List.{List, [], _∷_, _++_, map}
-use Prim.Native.Nat.{ℕ}
-use lib.Dec.{eqb, leb}
+use lib.Dec.{leb}
+use Rattle.intervals.specs.Sets.{isIn}
 use Rattle.intervals.specs.Intervals.{degreeOf, numericOf, classOf}
 use Rattle.qualities.specs.Qualities.{qualityNumber}
 use Rattle.qualities.specs.Masks.{maskOf}
@@ -19,8 +19,7 @@ use Rattle.rules.specs.Parts.{alterationsOf, extensionsOf}
 
 -- a quality is one of some
 abbrev pub isOneOf : ChordQuality → List ChordQuality → Bool
-isOneOf q [] = false
-isOneOf q (p ∷ more) = eqb (qualityNumber q) (qualityNumber p) || isOneOf q more
+isOneOf q some = isIn (qualityNumber q) (map qualityNumber some)
 
 -- "plus Seventh for Dominant7, Maj7, Mi7, MiMaj7"
 abbrev pub ownSeventh : ChordQuality → List IntDegree
@@ -36,8 +35,7 @@ degreesOf q ints = map degreeOf (alterationsOf q ints ++ extensionsOf q ints) ++
 
 -- a degree is in a list
 unfoldable pub isDegree : IntDegree → List IntDegree → Bool
-isDegree d [] = false
-isDegree d (e ∷ more) = eqb (numericOf d) (numericOf e) || isDegree d more
+isDegree d some = isIn (numericOf d) (map numericOf some)
 
 -- "every member of the quality's stack up to its degree is among the degrees"
 unfoldable pub reaches : List IntDegree → List IntDegree → IntDegree → Bool
@@ -64,14 +62,9 @@ unfoldable pub modifierOf : ChordQuality → List Interval → Numbered
 modifierOf q ints =
     let degrees = degreesOf q ints in cond (isDiminished q) Nothing (lastOf (keep (isStacked q degrees) (extensionsOf q ints)))
 
--- a class is in a list
-unfoldable pub isOwn : ℕ → List ℕ → Bool
-isOwn class [] = false
-isOwn class (k ∷ own) = eqb class k || isOwn class own
-
 -- a major seventh; "else it is an add unless its class is in the quality's own set"
 unfoldable pub isAdd : ChordQuality → List IntDegree → Interval → Bool
-isAdd q degrees e = is e MajorSeventh || not (isStacked q degrees e) && not (isOwn (classOf e) (maskOf q .own))
+isAdd q degrees e = is e MajorSeventh || not (isStacked q degrees e) && not (isIn (classOf e) (maskOf q .own))
 
 -- the adds; "For both diminished qualities every extension is an add"
 unfoldable pub addsOf : ChordQuality → List Interval → List Interval

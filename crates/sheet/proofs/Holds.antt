@@ -1,25 +1,22 @@
 -- The proof sheet holds: each of its rows is computed. A listing runs the suffix of every rooted set.
 --     sheet-holds     all twelve rows
 use mathlib.Core.Path.{_≡_, refl, ap, _∙_}
-use mathlib.Core.Bool.{Bool, cond, _&&_}
+use mathlib.Core.Bool.{Bool, true, cond, _&&_}
 use mathlib.Core.List.{List, [], _∷_}
-use Prim.Native.Nat.{ℕ, zero, suc, _+_, _-_, _*_, _%_, _<_}
+use Prim.Native.Nat.{ℕ, zero, suc, _+_, _-_, _*_, _%_}
 use native.Mathlib.Omega.{arith}
 use lib.Dec.{T}
 use lib.ListN.{getD}
 use Rattle.answer.specs.Words.{bytes, same}
 use Rattle.answer.specs.Replies.{text}
-use Rattle.answer.proofs.Tests.{left, right as right′, all, same→eq}
-use Rattle.intervals.specs.Sets.{isSet, has, isRooted, hasAll, hasNone, classCount, countBelow, isIn}
+use Rattle.answer.proofs.Tests.{left, right as right′, same→eq}
+use Rattle.intervals.specs.Sets.{isSet, has, isRooted, isIn}
 use Rattle.intervals.specs.Intervals.{intervals, nth, numbered, setOf}
-use Rattle.qualities.specs.Qualities.{qualityOf, qualityAnswer}
-use Rattle.rules.specs.Classes.{among, keep, only, atOnce, third, fourth, sixth, fifth, intervalsIn, intervalsOf}
-use Rattle.rules.specs.Parts.{hasThird, withThird, suffixQuality, isSus, within, alterationsOf, sixthAs13, extensionsOf, lastAdd, omitThird, omitFifth}
-use Rattle.rules.specs.Stack as Stack
-use Rattle.rules.specs.Stack.{degreesOf, isDegree, reaches, isStacked, modifierOf, isOwn, isAdd, addsOf}
-use Rattle.rules.specs.Heading.{nine, heading, sus}
-use Rattle.rules.specs.Suffix.{worded, addParts, parts, listed, close, parenthesized, suffixOf, suffixReply}
-use Rattle.rules.proofs.Agree.{at-rooted, same-bool, same-bool→eq}
+use Rattle.qualities.specs.Qualities.{qualityAnswer}
+use Rattle.rules.specs.Suffix.{suffixOf, suffixReply}
+use Rattle.rules.proofs.Computed.{suffix-computed}
+use Rattle.intervals.proofs.Rooted.{is-rooted, at-rooted}
+use Rattle.rules.proofs.Agree.{same-bool, same-bool→eq}
 use Rattle.listing.specs.Listing.{matching, setsOf, inBytes, listingOf}
 use Rattle.pool.specs.Pool.{tonesOf}
 use Rattle.pool.specs.Order.{insert, sorted}
@@ -46,8 +43,8 @@ both-at s suffix = only-at (bytes "+") augmented s suffix && only-at (bytes "7(b
 right : ℕ → Bool
 right s = both-at s (suffixOf s)
 
-all-right : (s : ℕ) → s < 4096 → s % 2 ≡ 1 → T (right s)
-unfolding all isIn only-at both-at right bytes same has hasAll hasNone classCount countBelow qualityOf intervals among keep only atOnce third fourth sixth fifth setOf intervalsIn intervalsOf hasThird withThird suffixQuality isSus within alterationsOf sixthAs13 extensionsOf degreesOf isDegree reaches isStacked Stack.lastOf modifierOf isOwn isAdd addsOf lastAdd omitThird omitFifth nine worded addParts parts listed close parenthesized heading sus suffixOf
+all-right : (s : ℕ) → isRooted s ≡ true → T (right s)
+unfolding suffix-computed only-at both-at right
 all-right = at-rooted right tt
 
 -- of the last n rooted sets, those of a list
@@ -57,14 +54,14 @@ kept sets (suc n) = cond (isIn (4095 - 2 * n) sets) ((4095 - 2 * n) ∷ kept set
 
 -- where a suffix is a text exactly at the sets of a list, these are what a search for the text finds
 abbrev OnlyAt : List ℕ → List ℕ → Type 0
-OnlyAt t sets = (s : ℕ) → s < 4096 → s % 2 ≡ 1 → same t (suffixOf s) ≡ isIn s sets
+OnlyAt t sets = (s : ℕ) → isRooted s ≡ true → same t (suffixOf s) ≡ isIn s sets
 
 searched : (t sets : List ℕ) → OnlyAt t sets → (n s : ℕ) → s % 2 ≡ 1 → s + 2 * n ≡ 4097 → matching t n s ≡ kept sets n
 unfolding matching kept
 searched t sets told zero s odd h = refl
 searched t sets told (suc n) s odd h =
     let e : s ≡ 4095 - 2 * n = omega arith in
-    ap (λ (b : Bool). cond b (s ∷ matching t n (s + 2)) (matching t n (s + 2))) (told s (omega arith) odd)
+    ap (λ (b : Bool). cond b (s ∷ matching t n (s + 2)) (matching t n (s + 2))) (told s (is-rooted s (omega arith) odd))
     ∙ ap (λ (l : List ℕ). cond (isIn s sets) (s ∷ l) l) (searched t sets told n (s + 2) (omega arith) (omega arith))
     ∙ ap (λ (k : ℕ). cond (isIn k sets) (k ∷ kept sets n) (kept sets n)) e
 
@@ -82,23 +79,23 @@ thirteenth-kept = tt
 
 plus-only : OnlyAt (bytes "+") augmented
 unfolding right both-at only-at
-plus-only s h odd = same-bool→eq (same (bytes "+") (suffixOf s)) (isIn s augmented) (left (only-at (bytes "+") augmented s (suffixOf s)) _ (all-right s h odd))
+plus-only s is = same-bool→eq (same (bytes "+") (suffixOf s)) (isIn s augmented) (left (only-at (bytes "+") augmented s (suffixOf s)) _ (all-right s is))
 
 seven-only : OnlyAt (bytes "7(b13)") flatThirteenth
 unfolding right both-at only-at
-seven-only s h odd =
-    same-bool→eq (same (bytes "7(b13)") (suffixOf s)) (isIn s flatThirteenth) (right′ (only-at (bytes "+") augmented s (suffixOf s)) _ (all-right s h odd))
+seven-only s is =
+    same-bool→eq (same (bytes "7(b13)") (suffixOf s)) (isIn s flatThirteenth) (right′ (only-at (bytes "+") augmented s (suffixOf s)) _ (all-right s is))
 
 -- the row at a place of the sheet
 abbrev at : ℕ → Row
 at n = getD sheet n record { given = []; found = [] }
 
 suffixes : Holds (at 0) × Holds (at 1) × Holds (at 2) × Holds (at 3) × Holds (at 4) × Holds (at 5)
-unfolding isSet isRooted suffixReply answerOf bytes same has hasAll hasNone classCount countBelow qualityOf intervals among keep only atOnce third fourth sixth fifth setOf intervalsIn intervalsOf hasThird withThird suffixQuality isSus within alterationsOf sixthAs13 extensionsOf degreesOf isDegree reaches isStacked Stack.lastOf modifierOf isOwn isAdd addsOf lastAdd omitThird omitFifth nine worded addParts parts listed close parenthesized heading sus suffixOf
+unfolding suffix-computed isSet isRooted suffixReply answerOf
 suffixes = (refl, refl, refl, refl, refl, refl)
 
 qualities : Holds (at 6)
-unfolding isSet has hasAll hasNone classCount countBelow qualityOf qualityAnswer answerOf
+unfolding suffix-computed isSet qualityAnswer answerOf
 qualities = refl
 
 listings : Holds (at 7) × Holds (at 8)
@@ -108,16 +105,21 @@ listings = (
   ap (λ (t : List ℕ). gives (text t) ∷ []) (listed-sets (bytes "7(b13)") flatThirteenth seven-only thirteenth-kept),
 )
 
-major-seventh : Holds (at 9)
+-- what a voicing is computed by
+voicing-computed : Unit {0}
 unfolding has isIn intervals nth numbered setOf tonesOf insert sorted keysFrom keysOf best offersOf offers bestOf without chosen others placedIn placed barring lastOf unbarred owns isOwned withoutLast leadOf holdsAny sixths sevenths guides tensions guideKeys tensionKeys aboveBass above voicingOf arePairs voicingReply answerOf
+voicing-computed = tt
+
+major-seventh : Holds (at 9)
+unfolding voicing-computed
 major-seventh = refl
 
 diminished : Holds (at 10)
-unfolding has isIn intervals nth numbered setOf tonesOf insert sorted keysFrom keysOf best offersOf offers bestOf without chosen others placedIn placed barring lastOf unbarred owns isOwned withoutLast leadOf holdsAny sixths sevenths guides tensions guideKeys tensionKeys aboveBass above voicingOf arePairs voicingReply answerOf
+unfolding voicing-computed
 diminished = refl
 
 flat-ninth : Holds (at 11)
-unfolding has isIn intervals nth numbered setOf tonesOf insert sorted keysFrom keysOf best offersOf offers bestOf without chosen others placedIn placed barring lastOf unbarred owns isOwned withoutLast leadOf holdsAny sixths sevenths guides tensions guideKeys tensionKeys aboveBass above voicingOf arePairs voicingReply answerOf
+unfolding voicing-computed
 flat-ninth = refl
 
 pub sheet-holds : AllHold sheet

@@ -2,5 +2,7 @@ pub mod Spelled
 pub mod Counted
 pub mod Row
 pub mod Replied
+pub mod Computed
 pub mod Sheet
+pub mod Room
 pub mod Determined

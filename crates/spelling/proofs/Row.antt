@@ -1,6 +1,6 @@
 -- The loop of `put_tones`: where it stands, what a turn does, and what is given of the row that it writes, for any table of degrees.
-use mathlib.Core.Path.{_≡_, refl, sym, ap, subst, _∙_}
-use mathlib.Core.List.{List, [], _∷_, _++_, append-nil, append-assoc}
+use mathlib.Core.Path.{_≡_, refl, ap, _∙_}
+use mathlib.Core.List.{List, [], _∷_, _++_, append-assoc}
 use Prim.Native.Nat.{ℕ, zero, suc, _+_, _*_, _%_, _-_, _^_, _≤_, _<_}
 use native.Mathlib.Omega.{arith}
 use native.Mathlib.Nat.{not-suc-le-zero}
@@ -8,10 +8,9 @@ use lib.Count.{trailingZeros}
 use lib.Dec.{T, leb, leb→le}
 use lib.ListN.{length, take, drop, length-append}
 use Rattle.answer.specs.Words.{bytes, low, packed, placeAfter, putAt}
-use Rattle.answer.specs.Written.{Writes}
 use Rattle.answer.proofs.Digits.{isShort, areBytes}
 use Rattle.answer.proofs.Tests.{left}
-use Rattle.answer.proofs.Writing.{nothing, also, Puts, no-puts, then-put}
+use Rattle.answer.proofs.Writing.{Puts, no-puts, then-put, SoFar, so-far-none, so-far-next, so-far-all}
 use Rattle.intervals.specs.Intervals.{numbered}
 use Rattle.notes.specs.declared.note.Note.{Note}
 use Rattle.intervals.specs.declared.interval.Interval.{Interval}
@@ -26,18 +25,14 @@ use Rattle.spelling.proofs.Spelled.{tone-short}
 abbrev rowOf : (Interval → IntDegree) → Note → ℕ → List ℕ
 rowOf degrees root set = spaced (toneNames degrees root (intervalsIn set))
 
--- what is written so far, with what is left to write, is the whole
 pub record Row (degrees : Interval → IntDegree) (root : Note) (l₀ : List ℕ) (set : ℕ) (l : List ℕ) (at left : ℕ) : Type 0 where
-  pub done : List ℕ
-  pub wrote : Writes l₀ 0 done at l
-  pub adds-up : done ++ rowOf degrees root left ≡ rowOf degrees root set
+  pub so-far : SoFar l₀ 0 (rowOf degrees root set) l at (rowOf degrees root left)
   pub small : left < 2 ^ 23
   pub room : at + 8 * length (intervalsIn left) + 8 ≤ length l
-  pub same : length l ≡ length l₀
 
 pub begin : (degrees : Interval → IntDegree) (root : Note) (l : List ℕ) (set : ℕ) → set < 2 ^ 23 → 8 * length (intervalsIn set) + 8 ≤ length l
     → Row degrees root l set l 0 set
-begin degrees root l set h room = record { done = []; wrote = nothing l 0; adds-up = refl; small = h; room = omega (arith, room); same = refl }
+begin degrees root l set h room = record { so-far = so-far-none l 0 (rowOf degrees root set); small = h; room = omega (arith, room) }
 
 pub numbered-short : (degrees : Interval → IntDegree) (root : Note) (m : Numbered) → T (isShort (numberedName degrees root m))
 unfolding isShort areBytes
@@ -49,12 +44,9 @@ unfolding isShort
 seven t short = leb→le (length t) 7 (left (leb (length t) 7) (areBytes t) short)
 
 module _ (degrees : Interval → IntDegree) (root : Note) (l₀ : List ℕ) (set : ℕ) (l : List ℕ) (at left : ℕ) (t : Row degrees root l₀ set l at left) where
-  pub end : left ≡ 0 → Writes l₀ 0 (rowOf degrees root set) at l
+  pub end : left ≡ 0 → Puts l₀ 0 (rowOf degrees root set) at l
   unfolding spaced
-  end e =
-      let none : rowOf degrees root left ≡ [] = rw (e, none-in) in
-      let all : t .done ≡ rowOf degrees root set = sym (append-nil (t .done)) ∙ ap (λ (x : List ℕ). t .done ++ x) (sym none) ∙ t .adds-up in
-      subst (λ (x : List ℕ). Writes l₀ 0 x at l) all (t .wrote)
+  end e = so-far-all (t .so-far) (rw (e, none-in))
 
   module _ (some : left ≡ 0 → ⊥) where
     f : First left (trailingZeros 32 left)
@@ -85,12 +77,9 @@ module _ (degrees : Interval → IntDegree) (root : Note) (l₀ : List ℕ) (set
         let short = seven name (numbered-short degrees root (numbered (trailingZeros 32 left))) in
         rw (bit left some (t .small))
         record {
-          done = t .done ++ (bytes " " ++ name);
-          wrote = also (t .wrote) (p .wrote);
-          adds-up = append-assoc (t .done) (bytes " " ++ name) _ ∙ ap (λ (x : List ℕ). t .done ++ x) (sym split) ∙ t .adds-up;
+          so-far = so-far-next (t .so-far) (bytes " " ++ name) _ split p;
           small = omega (arith, t .small);
           room = omega (arith, t .room, long, short, p .wrote .place, p .same);
-          same = p .same ∙ t .same;
         }
 
 -- a row of some intervals has a byte

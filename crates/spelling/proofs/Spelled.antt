@@ -1,5 +1,5 @@
 -- Laws of tones.
-use mathlib.Core.Path.{_≡_, refl, _∙_}
+use mathlib.Core.Path.{_≡_, _∙_}
 use mathlib.Core.Bool.{Bool, true}
 use Prim.Native.Nat.{ℕ, _-_, _<_}
 use native.Mathlib.Omega.{arith}
@@ -7,13 +7,14 @@ use lib.Dec.{T, leb}
 use Rattle.answer.specs.Words.{packed}
 use Rattle.answer.proofs.Digits.{isShort}
 use Rattle.answer.proofs.Tests.{is-true, all, at}
-use Rattle.intervals.specs.Intervals.{semitonesOf, numericOf}
+use Rattle.intervals.specs.Intervals.{intervals, nth, numbered, semitonesOf, numericOf}
+use Rattle.intervals.proofs.Rows.{at-interval}
 use Rattle.notes.specs.Notes.{isNote, isMove, spelled, getNote, getNoteAnswer}
 use Rattle.notes.specs.NoteText.{signs, noteName}
 use Rattle.notes.specs.declared.note.Note.{Note}
 use Rattle.notes.specs.declared.note.NoteAnswer.the-variants.{Is}
 use Rattle.intervals.specs.declared.interval.Interval.{Interval}
-use Rattle.intervals.specs.declared.interval.Interval.the-variants.{Unison, MinorSecond, MajorSecond, MinorThird, MajorThird, PerfectFourth, AugmentedFourth, DiminishedFifth, PerfectFifth, AugmentedFifth, MinorSixth, MajorSixth, DiminishedSeventh, MinorSeventh, MajorSeventh, Octave, FlatNinth, Ninth, SharpNinth, Eleventh, SharpEleventh, FlatThirteenth, Thirteenth}
+use Rattle.intervals.specs.declared.interval.Interval.the-variants.{Ninth, Eleventh, Thirteenth}
 use Rattle.intervals.specs.declared.interval.IntDegree.{IntDegree}
 use Rattle.intervals.specs.declared.interval.IntDegree.the-variants.{Root, Second, Third, Fourth, Fifth, Sixth, Seventh}
 use Rattle.intervals.specs.declared.interval.IntDegree.the-variants as Degree
@@ -40,31 +41,6 @@ pub move-given : (n : Note) (semitones degree : ℕ) → isNote n ≡ true → i
 unfolding getNoteAnswer
 move-given n semitones degree note move = rw (note, move)
 
-semitones-few : (i : Interval) → leb (semitonesOf i) 24 ≡ true
-semitones-few Unison = refl
-semitones-few MinorSecond = refl
-semitones-few MajorSecond = refl
-semitones-few MinorThird = refl
-semitones-few MajorThird = refl
-semitones-few PerfectFourth = refl
-semitones-few AugmentedFourth = refl
-semitones-few DiminishedFifth = refl
-semitones-few PerfectFifth = refl
-semitones-few AugmentedFifth = refl
-semitones-few MinorSixth = refl
-semitones-few MajorSixth = refl
-semitones-few DiminishedSeventh = refl
-semitones-few MinorSeventh = refl
-semitones-few MajorSeventh = refl
-semitones-few Octave = refl
-semitones-few FlatNinth = refl
-semitones-few Ninth = refl
-semitones-few SharpNinth = refl
-semitones-few Eleventh = refl
-semitones-few SharpEleventh = refl
-semitones-few FlatThirteenth = refl
-semitones-few Thirteenth = refl
-
 -- a degree, with semitones that are few
 moves : (s : ℕ) → leb s 24 ≡ true → (d : IntDegree) → isMove s (numericOf d) ≡ true
 moves s few Root = rw few
@@ -77,6 +53,10 @@ moves s few Seventh = rw few
 moves s few Degree.Ninth = rw few
 moves s few Degree.Eleventh = rw few
 moves s few Degree.Thirteenth = rw few
+
+semitones-few : (i : Interval) → leb (semitonesOf i) 24 ≡ true
+unfolding all intervals nth numbered
+semitones-few i = is-true _ (at-interval (λ i. leb (semitonesOf i) 24) tt i)
 
 -- by any table of degrees an interval is a move
 pub interval-moves : (degrees : Interval → IntDegree) (i : Interval) → isMove (semitonesOf i) (numericOf (degrees i)) ≡ true

@@ -12,11 +12,12 @@ use notes::note::Note;
 use notes::note::NoteAnswer;
 ghost use mathlib.Core.Path.{_≡_};
 ghost use mathlib.Core.Bool.{true};
-ghost use Prim.Native.Nat.{_+_, _*_, _%_, _<_, _≤_, _^_};
+ghost use Prim.Native.Nat.{_+_, _*_, _<_, _≤_, _^_};
 ghost use lib.ListN.{length};
 ghost use Rattle.answer.specs.Replies.{text, Answered};
 ghost use Rattle.answer.specs.Words.{packed};
 ghost use Rattle.answer.specs.Written.{Writes};
+ghost use Rattle.intervals.specs.Sets.{isRooted};
 ghost use Rattle.intervals.specs.Intervals.{numbered};
 ghost use Rattle.notes.specs.Notes.{isNote, isMove, getNote};
 ghost use Rattle.notes.specs.NoteText.{signs, noteName};
@@ -72,7 +73,7 @@ fn put_tones(buffer: &mut [u8], root: Note, set: u32) -> usize
 
 // The tones of a rooted set on a root. The first has a space before it too, which is not given.
 fn tones_on(root: Note, set: u32, out: &mut [u8]) -> Output
-    requires { ⌜ (isNote root ≡ true) × (set < 4096) × (set % 2 ≡ 1) ⌝ }
+    requires { ⌜ (isNote root ≡ true) × (isRooted set ≡ true) ⌝ }
     ensures { λ r. ⌜ Answered (text (tonesOf spelledBy root set)) (now (out .entry)) r (now (out .exit)) ⌝ }
 {
     let mut buffer = [0u8; ROOM];

@@ -1,5 +1,5 @@
 -- `candidates::lines::put_chord` meets its contract: a name, and a suffix behind it.
-use mathlib.Core.Path.{_≡_, subst}
+use mathlib.Core.Path.{subst}
 use Prim.Native.Nat.{ℕ, _+_, _≤_}
 use native.Mathlib.Omega.{arith}
 use lib.ListN.{length}

@@ -1,7 +1,7 @@
 -- `descriptors::classes::resolve_fourth` meets its contract: the tests that led to a return say what the chain comes to.
 use borrow.Author.Needs.{needs}
-use Rattle.rules.proofs.Agree.{yes, no-then}
-use Rattle.rules.proofs.Resolved.{fourth-told}
+use Rattle.answer.proofs.Chosen.{yes, no-then}
+use Rattle.rules.proofs.Resolved.{class-6-told}
 use Rattle.descriptors.proofs.classes.resolve_fourth.Statement.{statement}
 use Rattle.descriptors.proofs.classes.resolve_fourth.Tie as tie
 
@@ -9,6 +9,6 @@ pub resolve-fourth-spec : {M : Type 1} → statement M
 resolve-fourth-spec =
     tie.close
     (tie.spec
-    (λ c. fourth-told _ _ (search needs) (search yes))
-    (λ c. fourth-told _ _ (search needs) (search (yes, no-then)))
-    (λ c. fourth-told _ _ (search needs) (search no-then)))
+    (λ c. class-6-told _ _ (search needs) (search yes))
+    (λ c. class-6-told _ _ (search needs) (search (yes, no-then)))
+    (λ c. class-6-told _ _ (search needs) (search no-then)))

@@ -1,7 +1,7 @@
 -- `descriptors::classes::resolve_third` meets its contract: the tests that led to a return say what the chain comes to.
 use borrow.Author.Needs.{needs}
-use Rattle.rules.proofs.Agree.{yes, no-then}
-use Rattle.rules.proofs.Resolved.{third-told}
+use Rattle.answer.proofs.Chosen.{yes, no-then}
+use Rattle.rules.proofs.Resolved.{class-3-told}
 use Rattle.descriptors.proofs.classes.resolve_third.Statement.{statement}
 use Rattle.descriptors.proofs.classes.resolve_third.Tie as tie
 
@@ -9,6 +9,6 @@ pub resolve-third-spec : {M : Type 1} → statement M
 resolve-third-spec =
     tie.close
     (tie.spec
-    (λ c. third-told _ _ (search needs) (search yes))
-    (λ c. third-told _ _ (search needs) (search (yes, no-then)))
-    (λ c. third-told _ _ (search needs) (search no-then)))
+    (λ c. class-3-told _ _ (search needs) (search yes))
+    (λ c. class-3-told _ _ (search needs) (search (yes, no-then)))
+    (λ c. class-3-told _ _ (search needs) (search no-then)))

@@ -1,14 +1,14 @@
 -- `descriptors::descriptor::describe` meets its contract: at a rooted set each step is what the rules say.
 use mathlib.Core.Path.{_≡_, ap, _∙_}
 use mathlib.Core.Bool.{true}
-use Prim.Native.Nat.{ℕ, _%_, _<_}
+use Prim.Native.Nat.{ℕ}
 use native.Mathlib.Nat.{mod-eq-of-lt}
 use native.Mathlib.Omega.{arith}
 use borrow.Author.Needs.{needs}
 use Rattle.answer.proofs.Tests.{refused, admitted}
 use Rattle.intervals.specs.Sets.{isRooted}
 use Rattle.intervals.specs.Intervals.{setOf}
-use Rattle.intervals.proofs.Rooted.{rooted-small, rooted-odd}
+use Rattle.intervals.proofs.Rooted.{rooted-small}
 use Rattle.rules.specs.Classes.{intervalsOf}
 use Rattle.descriptors.specs.declared.descriptor.DescriptorAnswer.the-variants.{Is}
 use Rattle.descriptors.proofs.Described.{described}
@@ -24,11 +24,10 @@ module _ (c : tie.Else1) where
   is : isRooted set ≡ true
   is = admitted _ _ (c .before .is-rooted .ensures) (c .if1 .left)
 
-  small : set < 4096
-  small = let h = rooted-small set is in omega arith
-
 intervals-told : (c : tie.After-intervals) → c .intervals .result ≡ setOf (intervalsOf (set (c .before)))
-intervals-told c = c .intervals .ensures ∙ ap (λ (s : ℕ). setOf (intervalsOf s)) (mod-eq-of-lt (small (c .before)))
+intervals-told c =
+    let small = rooted-small (set (c .before)) (is (c .before)) in
+    c .intervals .ensures ∙ ap (λ (s : ℕ). setOf (intervalsOf s)) (mod-eq-of-lt (omega arith))
 
 returns-2 : tie.Need-returns-2
 returns-2 c =
@@ -38,7 +37,7 @@ returns-2 c =
     let quality = masks .before .before in
     let e = quality .before .before in
     ap Is
-    (described (set e) (small e) (rooted-odd (set e) (is e)) _ _ _ _ _ _ _ _ _ _ _ (intervals-told (quality .before)) (quality .shown-quality .ensures)
+    (described (set e) (is e) _ _ _ _ _ _ _ _ _ _ _ (intervals-told (quality .before)) (quality .shown-quality .ensures)
     (masks .before .alteration-mask .ensures) (masks .extension-mask .ensures) (within .within .ensures) (split .split-extensions .ensures)
     (c .before .before .last-add .ensures) (c .before .omitted-third .ensures) (c .omitted-fifth .ensures))
     ∙ rooted (set e) (is e)
@@ -50,7 +49,7 @@ describe-spec =
     (λ c κs. search needs)
     (λ c. not-rooted _ (refused _ _ (c .before .is-rooted .ensures) (c .if1 .taken)))
     (λ c κs. search needs)
-    (λ c κs. (small (c .before), rooted-odd (set (c .before)) (is (c .before)), intervals-told c))
+    (λ c κs. (is (c .before), intervals-told c))
     (λ c κs. search needs)
     (λ c κs. search needs)
     (λ c κs. search needs)

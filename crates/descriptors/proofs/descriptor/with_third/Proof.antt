@@ -1,14 +1,29 @@
 -- `descriptors::descriptor::with_third` meets its contract: the test says whether class 4 is put in.
+use mathlib.Core.Path.{_≡_, ap, _∙_}
+use Prim.Native.Nat.{ℕ, _<_}
 use native.Mathlib.Omega.{arith}
 use lib.Bits.{or-lt}
-use Rattle.rules.proofs.Agree.{yes, no-then}
-use Rattle.rules.proofs.Read.{with-third-told}
+use Rattle.answer.proofs.Chosen.{yes, no-then}
+use Rattle.intervals.proofs.Rooted.{rooted-small}
+use Rattle.rules.specs.Parts.{withThird}
+use Rattle.rules.specs.private.Steps.{withThirdFrom}
+use Rattle.rules.proofs.Told.{with-third}
 use Rattle.descriptors.proofs.descriptor.with_third.Statement.{statement}
 use Rattle.descriptors.proofs.descriptor.with_third.Tie as tie
+
+module _ (b : tie.Start) where
+  abbrev set : ℕ
+  set = b .args .set
+
+  small : set < 4096
+  small = let h = rooted-small set (b .pre .0) in omega arith
+
+  told : (r : ℕ) → r ≡ withThirdFrom set (b .args .intervals) → r ≡ withThird set
+  told r e = e ∙ ap (withThirdFrom set) (b .pre .1) ∙ with-third set (b .pre .0)
 
 pub with-third-spec : {M : Type 1} → statement M
 with-third-spec =
     tie.close
     (tie.spec
-    (λ c. (with-third-told _ _ _ (c .before .pre .0) (c .before .pre .1) (c .before .pre .2) (search yes), or-lt 12 _ _ (c .before .pre .0) (omega arith)))
-    (λ c. (with-third-told _ _ _ (c .before .pre .0) (c .before .pre .1) (c .before .pre .2) (search no-then), c .before .pre .0)))
+    (λ c. (told (c .before) _ (search yes), or-lt 12 _ _ (small (c .before)) (omega arith)))
+    (λ c. (told (c .before) _ (search no-then), small (c .before))))

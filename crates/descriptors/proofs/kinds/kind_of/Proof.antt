@@ -1,11 +1,12 @@
 -- `descriptors::kinds::kind_of` meets its contract: each arm has the row of its quality.
 use borrow.Author.Needs.{needs}
 use Rattle.answer.specs.Words.{bytes, low, packed}
+use Rattle.intervals.specs.Sets.{isIn}
 use Rattle.descriptors.proofs.kinds.kind_of.Statement.{statement}
 use Rattle.descriptors.proofs.kinds.kind_of.Tie as tie
 
 pub kind-of-spec : {M : Type 1} → statement M
-unfolding bytes low packed
+unfolding bytes low packed isIn
 kind-of-spec =
     tie.close
     (tie.spec

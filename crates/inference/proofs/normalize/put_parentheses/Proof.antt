@@ -13,8 +13,8 @@ use Rattle.rules.specs.Classes.{intervalsIn}
 use Rattle.rules.specs.Suffix.{worded, parenthesized}
 use Rattle.descriptors.specs.declared.descriptor.Descriptor.{Descriptor}
 use Rattle.inference.specs.declared.wording.Prefix.{Prefix}
-use Rattle.inference.specs.Prefixes.{prefixText}
-use Rattle.inference.specs.Described.{partsOf}
+use Rattle.inference.specs.private.Prefixes.{prefixText}
+use Rattle.inference.specs.private.Described.{partsOf}
 use Rattle.inference.proofs.Listed.{Listing, no-parts, then-parts, fits, starts-before, closed}
 use Rattle.inference.proofs.normalize.put_parentheses.Statement.{statement}
 use Rattle.inference.proofs.normalize.put_parentheses.Tie as tie

@@ -10,7 +10,7 @@ use Rattle.answer.specs.Words.{bytes, packed}
 use Rattle.intervals.specs.Intervals.{numbered}
 use Rattle.intervals.specs.declared.interval.Numbered.{Numbered}
 use Rattle.rules.specs.Heading.{orElse}
-use Rattle.inference.specs.Prefixes.{prefixText}
+use Rattle.inference.specs.private.Prefixes.{prefixText}
 use Rattle.answer.proofs.Writing.{no-puts, then-put}
 use Rattle.inference.proofs.Texts.{opening-short, prefix-short, or-nothing-short}
 use Rattle.inference.proofs.normalize.put_part.Statement.{statement}

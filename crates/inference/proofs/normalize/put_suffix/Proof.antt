@@ -3,19 +3,18 @@
 use mathlib.Core.Path.{_≡_, sym, ap, ap₂, subst, _∙_}
 use mathlib.Core.Bool.{true}
 use mathlib.Core.List.{List, _++_}
-use Prim.Native.Nat.{ℕ, _+_, _%_, _≤_, _<_}
+use Prim.Native.Nat.{ℕ, _+_, _≤_}
 use native.Mathlib.Omega.{arith}
 use lib.ListN.{length, length-append}
 use borrow.Author.Needs.{needs}
 use Rattle.answer.proofs.Writing.{same-text}
 use Rattle.intervals.specs.Sets.{isRooted}
-use Rattle.intervals.proofs.Rooted.{rooted-small, rooted-odd}
 use Rattle.rules.specs.Suffix.{parenthesized, suffixOf}
 use Rattle.rules.proofs.Short.{suffix-short}
 use Rattle.descriptors.specs.declared.descriptor.Descriptor.{Descriptor}
 use Rattle.descriptors.specs.Descriptors.{descriptorOf}
 use Rattle.descriptors.proofs.Replied as Replied
-use Rattle.inference.specs.Described.{headOf, partsOf, Small}
+use Rattle.inference.specs.private.Described.{headOf, partsOf, Small}
 use Rattle.inference.proofs.Described.{head-told, parts-told, small-told}
 use Rattle.inference.proofs.Puts.{no-room, no-set, placed}
 use Rattle.inference.proofs.normalize.put_suffix.Statement.{statement}
@@ -23,26 +22,20 @@ use Rattle.inference.proofs.normalize.put_suffix.Tie as tie
 
 -- of a rooted set and its descriptor
 module _ (s : ℕ) (d : Descriptor) (told : (isRooted s ≡ true) × (d ≡ descriptorOf s)) where
-  small : s < 4096
-  small = let h = rooted-small s (told .0) in omega arith
-
-  odd : s % 2 ≡ 1
-  odd = rooted-odd s (told .0)
-
   is-small : Small d
-  is-small = subst Small (sym (told .1)) (small-told s small odd)
+  is-small = subst Small (sym (told .1)) (small-told s)
 
   text : headOf d ++ parenthesized (partsOf d) ≡ suffixOf s
   unfolding suffixOf
   text =
       ap (λ (x : Descriptor). headOf x ++ parenthesized (partsOf x)) (told .1)
-      ∙ ap₂ (λ (h : List ℕ) (p : List (List ℕ)). h ++ parenthesized p) (head-told s) (parts-told s small odd)
+      ∙ ap₂ (λ (h : List ℕ) (p : List (List ℕ)). h ++ parenthesized p) (head-told s) (parts-told s (told .0))
 
   -- its heading and its parentheses have the room of the longest
   room : (at n : ℕ) → at + 72 ≤ n → at + length (headOf d) + length (parenthesized (partsOf d)) + 8 ≤ n
   room at n h =
       let sum : length (headOf d) + length (parenthesized (partsOf d)) ≡ length (suffixOf s) = sym (length-append (headOf d) (parenthesized (partsOf d))) ∙ ap length text in
-      let short = suffix-short s small odd in
+      let short = suffix-short s (told .0) in
       omega arith
 
 described : (c : tie.After-descriptor) → let a = c .before .before in

@@ -6,7 +6,6 @@ use borrow.Author.Needs.{needs}
 use Rattle.answer.specs.Words.{same}
 use Rattle.answer.specs.Written.{Writes}
 use Rattle.answer.proofs.Writing.{counted, within}
-use Rattle.intervals.proofs.Rooted.{is-rooted}
 use Rattle.rules.specs.Suffix.{suffixOf}
 use Rattle.inference.proofs.Puts.{put-at}
 use Rattle.listing.proofs.search.is_suffix.Statement.{statement}
@@ -15,8 +14,7 @@ use Rattle.listing.proofs.search.is_suffix.Tie as tie
 stands : (c : tie.After-put-suffix) → Writes (replicate 72 0) 0 (suffixOf (c .before .before .before .args .set)) (c .put-suffix .result) (c .put-suffix .last .0)
 stands c =
     let s = c .before .before .before in
-    let h = s .pre .0 in
-    put-at (s .args .set) (replicate 72 0) 0 (is-rooted (s .args .set) (omega arith) (s .pre .1)) (omega arith) _ _ (c .put-suffix .ensures)
+    put-at (s .args .set) (replicate 72 0) 0 (s .pre) (omega arith) _ _ (c .put-suffix .ensures)
 
 pub is-suffix-spec : {M : Type 1} → statement M
 is-suffix-spec =

@@ -6,8 +6,9 @@ use Prim.Native.Nat.{ℕ, _+_, _-_, _≤_}
 use native.Mathlib.Omega.{arith}
 use denote.Ref.{now}
 use Rattle.answer.proofs.Writing.{SoFar, so-far-none, so-far-next, so-far-all}
+use Rattle.intervals.proofs.Rooted.{is-rooted}
 use Rattle.listing.specs.Listing.{matching, setsOf, inBytes, listingOf}
-use Rattle.listing.proofs.Found.{left-of, two, one-found, one-skipped, has-room}
+use Rattle.listing.proofs.Found.{left-of, one-found, one-skipped, has-room}
 use Rattle.listing.proofs.search.search.Statement.{statement}
 use Rattle.listing.proofs.search.search.Tie as tie
 
@@ -56,7 +57,7 @@ search-spec =
     loop-holds
     (λ c. omega arith)
     (λ c. omega arith)
-    (λ c κs. (omega arith, omega arith))
+    (λ c κs. is-rooted _ (omega arith) (omega arith))
     (λ c κs.
     let h = c .before .before .before .before .loop in
     (omega arith, has-room _ (h .i) (omega arith) (h .inv .0) (c .before .before .before .before .before .before .before .pre) (sym (c .before .before .is-suffix .ensures) ∙ c .before .if1 .taken)))

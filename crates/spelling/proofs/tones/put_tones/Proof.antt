@@ -37,5 +37,5 @@ put-tones-spec =
     (λ c. bit-within _ (c .before .before .before .before .before .before .before .before .before .loop-test .taken) (c .before .before .before .before .before .before .before .before .before .before .loop .inv .small))
     (λ c. less _ (c .before .before .before .before .before .before .before .before .before .loop-test .taken) (c .before .before .before .before .before .before .before .before .before .before .loop .inv .small))
     loop-again
-    (λ c. c .before .loop .inv .same)
-    (λ c. end spelledBy _ _ _ _ _ _ (c .before .loop .inv) (c .loop-test .left)))
+    (λ c. c .before .loop .inv .so-far .puts .same)
+    (λ c. end spelledBy _ _ _ _ _ _ (c .before .loop .inv) (c .loop-test .left) .wrote))

@@ -1,14 +1,12 @@
 -- `spelling::tones::tones` meets its contract: the set, then the note of the root class, say what the call has to give.
 use mathlib.Core.Path.{_≡_, sym, subst, _∙_}
 use mathlib.Core.Bool.{true}
-use native.Mathlib.Omega.{arith}
 use denote.Ref.{now}
 use borrow.Author.Needs.{needs}
 use Rattle.answer.specs.Replies.{Reply, Answered}
 use Rattle.answer.proofs.Rooms.{refused-by}
 use Rattle.answer.proofs.Tests.{refused, admitted}
 use Rattle.intervals.specs.Sets.{isRooted}
-use Rattle.intervals.proofs.Rooted.{rooted-small, rooted-odd}
 use Rattle.notes.specs.declared.note.NoteAnswer.the-variants.{Is, Refused}
 use Rattle.names.specs.Names.{flats, noteIn}
 use Rattle.names.proofs.Named.{flats-brief, note-in}
@@ -29,8 +27,7 @@ tones-on-requires : tie.Need-tones-on-requires
 tones-on-requires c κs =
     let n = c .before .before in
     let e = n .before .before .before in
-    let small = rooted-small _ (is-rooted e) in
-    (note-in flats flats-brief _ _ (root-is n), omega arith, rooted-odd _ (is-rooted e))
+    (note-in flats flats-brief _ _ (root-is n), is-rooted e)
 
 returns-2 : tie.Need-returns-2
 unfolding tonesOn

@@ -10,25 +10,29 @@ use borrow.Author.Needs.{needs}
 use Rattle.answer.specs.Replies.{text, Answered}
 use Rattle.intervals.specs.Intervals.{setOf}
 use Rattle.intervals.specs.declared.interval.Interval.{Interval}
+use Rattle.intervals.proofs.Rooted.{rooted-small}
+use Rattle.intervals.proofs.Rows.{set-small}
 use Rattle.rules.specs.Classes.{intervalsIn, intervalsOf}
 use Rattle.spelling.specs.Tones.{spelledBy, toneNames, spaced, tonesOf}
-use Rattle.spelling.proofs.Counted.{at-least-one, at-most-twelve, set-less, set-reads}
+use Rattle.spelling.proofs.Counted.{at-least-one, at-most-twelve, set-reads}
 use Rattle.spelling.proofs.Row.{row-some, row-long, given}
 use Rattle.spelling.proofs.tones.tones_on.Statement.{statement}
 use Rattle.spelling.proofs.tones.tones_on.Tie as tie
 
 -- the intervals that the code has are the set's
 found : (c : tie.After-intervals) → c .intervals .result ≡ setOf (intervalsOf (c .before .before .before .args .set))
-found c = c .intervals .ensures ∙ ap (λ (x : ℕ). setOf (intervalsOf x)) (mod-eq-of-lt (c .before .before .before .pre .1))
+found c =
+    let small = rooted-small _ (c .before .before .before .pre .1) in
+    c .intervals .ensures ∙ ap (λ (x : ℕ). setOf (intervalsOf x)) (mod-eq-of-lt (omega arith))
 
 all-found : (c : tie.After-intervals) → intervalsIn (c .intervals .result) ≡ intervalsOf (c .before .before .before .args .set)
-all-found c = let s = c .before .before .before in ap intervalsIn (found c) ∙ set-reads (s .args .set) (s .pre .1) (s .pre .2)
+all-found c = let s = c .before .before .before in ap intervalsIn (found c) ∙ set-reads (s .args .set) (s .pre .1)
 
 put-tones-requires : tie.Need-put-tones-requires
 put-tones-requires c κs =
     let s = c .before .before .before in
-    let most = at-most-twelve (s .args .set) (s .pre .1) (s .pre .2) in
-    (s .pre .0, rw (found c) (set-less (s .args .set) (s .pre .1) (s .pre .2)), rw (all-found c) (omega (arith, most)))
+    let most = at-most-twelve (s .args .set) (s .pre .1) in
+    (s .pre .0, rw (found c) (set-small (intervalsOf (s .args .set))), rw (all-found c) (omega (arith, most)))
 
 -- the row of tones, and how long it is
 stands : (c : tie.After-put-tones)
@@ -42,9 +46,9 @@ counts : (c : tie.After-put-tones) → (1 ≤ c .put-tones .result) × (c .put-t
 counts c =
     let s = c .before .before .before .before in
     let place = c .put-tones .ensures .place ∙ zero-add _ ∙ ap length (sym (c .put-tones .ensures .added) ∙ stands c) in
-    let least = row-some spelledBy (s .args .root) (intervalsOf (s .args .set)) (at-least-one (s .args .set) (s .pre .1) (s .pre .2)) in
+    let least = row-some spelledBy (s .args .root) (intervalsOf (s .args .set)) (at-least-one (s .args .set) (s .pre .1)) in
     let most = row-long spelledBy (s .args .root) (intervalsOf (s .args .set)) in
-    let twelve = at-most-twelve (s .args .set) (s .pre .1) (s .pre .2) in
+    let twelve = at-most-twelve (s .args .set) (s .pre .1) in
     (rw place least, omega (arith, place, most, twelve, c .put-tones .kept .0))
 
 returns : tie.Need-returns
@@ -53,7 +57,7 @@ returns c =
     let g = c .before .before in
     let put = g .before .before .before .before .before in
     let s = put .before .before .before .before in
-    let row = given spelledBy (s .args .root) (intervalsOf (s .args .set)) (put .put-tones .last .0) (put .put-tones .result) (at-least-one (s .args .set) (s .pre .1) (s .pre .2)) (stands put) in
+    let row = given spelledBy (s .args .root) (intervalsOf (s .args .set)) (put .put-tones .last .0) (put .put-tones .result) (at-least-one (s .args .set) (s .pre .1)) (stands put) in
     subst (λ (t : List ℕ). Answered (text t) (now (s .args .out)) (g .give .result) (g .give .last .1 .0)) row (g .give .ensures)
 
 pub tones-on-spec : {M : Type 1} → statement M

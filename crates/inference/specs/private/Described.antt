@@ -1,4 +1,4 @@
--- A suffix as it is written off a descriptor: cited by the crate's own contracts alone.
+-- A suffix as it is written off a descriptor.
 use mathlib.Core.Bool.{Bool, cond, not, _||_}
 use mathlib.Core.List.{List, [], _++_}
 use Prim.Native.Nat.{ℕ, _^_, _<_}
@@ -12,7 +12,7 @@ use Rattle.rules.specs.Classes.{intervalsIn}
 use Rattle.rules.specs.Heading.{wording, modified}
 use Rattle.rules.specs.Suffix.{worded}
 use Rattle.descriptors.specs.declared.descriptor.Descriptor.{Descriptor}
-use Rattle.inference.specs.Prefixes.{prefixText, addWhere}
+use Rattle.inference.specs.private.Prefixes.{prefixText, addWhere}
 
 -- a modifier where a quality shows one, or its word without one
 abbrev pub modifierWord : Bool → ℕ → Numbered → ℕ

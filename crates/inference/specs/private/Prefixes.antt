@@ -1,4 +1,4 @@
--- What stands before the first of some parts, and a part of the parentheses: cited by the crate's own contracts alone.
+-- What stands before the first of some parts, and a part of the parentheses.
 use mathlib.Core.Bool.{Bool, cond}
 use mathlib.Core.List.{List, [], _++_}
 use Prim.Native.Nat.{ℕ}

@@ -1,4 +1,4 @@
--- What becomes of the extensions, as the code computes it by bits: cited by the crate's own contracts alone.
+-- What becomes of the extensions, as the code computes it by bits.
 use mathlib.Core.Path.{_≡_}
 use mathlib.Core.List.{map}
 use Prim.Native.Nat.{ℕ}
@@ -10,7 +10,7 @@ use Rattle.qualities.specs.Masks.{ownBits, stackBits}
 use Rattle.qualities.specs.declared.quality.ChordQuality.{ChordQuality}
 use Rattle.rules.specs.Stack.{ownSeventh, isDiminished}
 use Rattle.rules.specs.Heading.{isSixth}
-use Rattle.rules.proofs.Tested.{unstackedFrom, modifierFrom, addsFrom, nineFrom}
+use Rattle.rules.specs.private.Steps.{unstackedFrom, modifierFrom, addsFrom, nineFrom}
 
 -- the gaps in a quality's stack, with the alterations and extensions of a set
 abbrev pub missedBy : ChordQuality → ℕ → ℕ → ℕ

@@ -1,0 +1,3 @@
+-- What no public contract cites: a reader need not believe any of it.
+pub mod Prefixes
+pub mod Described
