@@ -1,7 +1,10 @@
 # What the commands of this folder share: the carried Rust is as it was carried, the machine has what they need, installed
-# from Debian where it is missing, and the library's archive with a way to link and run programs over it.
+# from Debian where it is missing, and the library's archives with a way to link and run programs over them.
 
-archive=target/staticlib/libhemotusap.a
+# What the kit compiles for, and this machine where that is another.
+own=$(uname -m)-linux
+targets=(x86_64-linux)
+if [ "$own" != x86_64-linux ]; then targets+=("$own"); fi
 
 fail() {
   printf '%s: %s\n' "${0##*/}" "$*" >&2
@@ -58,30 +61,28 @@ check_stored() { # CRATE
 }
 
 # Where it stands and no crate has changed, nothing is proved for it.
-build_archive() {
+build_archive() { # TARGET; it sets `archive`
   need make make
-  make --silent
+  archive=$(make --silent TARGET="$1")
 }
 
-# Archives of the library are x86-64, so that an Arm machine cross-compiles and emulates. There gcc links C++ too, with
-# -lstdc++ behind it: g++ would add -lm, and the static one of Debian's cross packages names files that they have elsewhere.
-prepare_machine() { # gcc|g++; it sets `compiler` and `emulator`
-  local guide
+# For x86-64 an Arm machine cross-compiles and emulates.
+prepare_machine() { # TARGET; it sets `compiler` and `emulator`
   need_kit
-  case $(uname -m) in
-    x86_64)
-      need "$1" "$1" libc6-dev
-      compiler=("$1")
+  case "$1 on $own" in
+    "$own on $own")
+      need gcc gcc libc6-dev
+      compiler=(gcc)
       emulator=()
       ;;
-    aarch64)
-      need "x86_64-linux-gnu-$1" "$1-x86-64-linux-gnu" libc6-dev-amd64-cross
+    'x86_64-linux on aarch64-linux')
+      need x86_64-linux-gnu-gcc gcc-x86-64-linux-gnu libc6-dev-amd64-cross
       compiler=(x86_64-linux-gnu-gcc -static)
-      guide=$(rt doc)
-      emulator=("${guide%/*/*}/on/aarch64/toolchain/bin/qemu-x86_64")
+      . tools/kit.bash
+      emulator=("$kit/$programs/qemu-x86_64")
       [ -x "${emulator[0]}" ] || fail "the kit has no emulator at ${emulator[0]}"
       ;;
-    *) fail "no way known to run x86-64 programs on $(uname -m)" ;;
+    *) fail "no way known to run programs of $1" ;;
   esac
 }
 
