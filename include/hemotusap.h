@@ -9,7 +9,7 @@
  * Accidentals: the count of sharps, -6..6; flats are negative, 0 is none.
  *
  * No call allocates, keeps state or calls back: any thread may make any call at any time. Of the
- * stack a listing takes 4.4 KiB, candidates 1.3 KiB and any other call at most half of one.
+ * stack a listing takes at most 4.3 KiB, candidates 1.1 KiB and any other call half of one.
  */
 #ifndef HEMOTUSAP_H
 #define HEMOTUSAP_H
@@ -17,10 +17,10 @@
 #include <stddef.h>
 #include <stdint.h>
 
-/* Why a call is refused, in the order in which it is looked at. */
+/* A call is refused exactly when one of these holds, in the order in which it is looked at. */
 enum hemotusap_refusal {
     HEMOTUSAP_NOT_A_SET = 1,      /* a set above 4095, or, but for the quality, without class 0 */
-    HEMOTUSAP_BAD_CLASS = 2,      /* a root or bass class above 11 */
+    HEMOTUSAP_BAD_CLASS = 2,      /* a root or bass class above 11, NO_BASS excepted */
     HEMOTUSAP_TOO_MANY_PAIRS = 3, /* more than 16 pairs of note class and interval are used */
     HEMOTUSAP_BAD_PAIR = 4,       /* a note class above 11 or an interval above 22 is used */
     HEMOTUSAP_BAD_NOTE = 5,       /* a letter above 6, or an accidental outside -6..6 */

@@ -1,4 +1,4 @@
-// A host: each call of the library through its C++ wrapper, in memory of the host's own.
+// A host in C++: each call of the library by its wrapper, in memory of the host's own.
 #include <hemotusap.hpp>
 
 #include <array>
@@ -54,6 +54,19 @@ void symbols() {
     show("sets of 7(b13)", hemotusap::listing("7(b13)", sets)); // 1297 1425 3345 3473
 }
 
+void qualities() {
+    if (const auto quality = hemotusap::quality(145))
+        std::printf("145 is %s\n", *quality == hemotusap::chord_quality::maj ? "major" : "another");
+}
+
+void notes() {
+    const hemotusap::note c{letter::C, 0}, e_flat{letter::E, -1}, g{letter::G, 0};
+    char text[hemotusap::tones_room];
+    show("tones of 73 on C", hemotusap::tones(0, 73, text));
+    show("a major third above Eb", hemotusap::get_note(e_flat, 4, 3));
+    show("Eb moved as C to G", hemotusap::transpose(c, e_flat, g));
+}
+
 void voicings() {
     const std::vector<std::uint8_t> classes{0, 4, 7, 11};
     const interval intervals[] = {interval::unison, interval::major_third, interval::perfect_fifth,
@@ -64,20 +77,11 @@ void voicings() {
     show("CMa7/E, lead 71", hemotusap::voicing(0, 4, classes, intervals, 71, keys));
 }
 
-void notes() {
-    const hemotusap::note c{letter::C, 0}, e_flat{letter::E, -1}, g{letter::G, 0};
-    char text[hemotusap::tones_room];
-    show("tones of 73 on C", hemotusap::tones(0, 73, text));
-    show("Eb moved as C to G", hemotusap::transpose(c, e_flat, g));
-    show("a major third above Eb", hemotusap::get_note(e_flat, 4, 3));
-    if (const auto quality = hemotusap::quality(145))
-        std::printf("145 is %s\n", *quality == hemotusap::chord_quality::maj ? "major" : "another");
-}
-
 } // namespace
 
 int main() {
     symbols();
-    voicings();
+    qualities();
     notes();
+    voicings();
 }

@@ -1,0 +1,85 @@
+/* A host in C: each call of the library, in memory of the host's own. It prints what main.cpp
+   prints. */
+#include <hemotusap.h>
+
+#include <inttypes.h>
+#include <stdio.h>
+
+/* The text that an answer counts, or why there is none. */
+static void show(const char *what, int64_t answer, const uint8_t *text)
+{
+    const char *why = answer == -HEMOTUSAP_NOT_A_SET ? "not a set" : "for another reason";
+    if (answer >= 0)
+        printf("%s: %.*s\n", what, (int)answer, (const char *)text);
+    else
+        printf("%s: refused, %s\n", what, why);
+}
+
+static void symbols(void)
+{
+    static const uint8_t keys[] = {60, 64, 67};
+    uint8_t lines[HEMOTUSAP_CANDIDATES_ROOM], name[HEMOTUSAP_SUFFIX_ROOM];
+    int64_t written = hemotusap_candidates(keys, sizeof keys, lines, sizeof lines);
+    printf("60 64 67 may be %" PRId64 " chords:\n", hemotusap_candidate_count(keys, sizeof keys));
+    printf("%.*s", (int)written, (const char *)lines);
+    show("suffix of 1169", hemotusap_suffix(1169, name, sizeof name), name);
+    show("suffix of 4096", hemotusap_suffix(4096, name, sizeof name), name);
+}
+
+/* A set has two bytes, the higher one first. */
+static void sets(void)
+{
+    static const uint8_t name[] = {'7', '(', 'b', '1', '3', ')'};
+    uint8_t listed[HEMOTUSAP_LISTING_ROOM];
+    int64_t written = hemotusap_listing(name, sizeof name, listed, sizeof listed);
+    printf("sets of 7(b13):");
+    for (int64_t at = 0; at < written; at += 2)
+        printf(" %d", 256 * listed[at] + listed[at + 1]);
+    printf("\n");
+}
+
+static void qualities(void)
+{
+    printf("145 is %s\n", hemotusap_quality(145) == HEMOTUSAP_QUALITY_MAJ ? "major" : "another");
+}
+
+/* A note comes as 16 * letter + accidental + 6. */
+static void show_note(const char *what, int64_t note)
+{
+    uint8_t text[HEMOTUSAP_NOTE_TEXT_ROOM];
+    show(what, hemotusap_note_text(note / 16, note % 16 - 6, text, sizeof text), text);
+}
+
+static void notes(void)
+{
+    enum { C = HEMOTUSAP_LETTER_C, E = HEMOTUSAP_LETTER_E, G = HEMOTUSAP_LETTER_G };
+    uint8_t text[HEMOTUSAP_TONES_ROOM];
+    show("tones of 73 on C", hemotusap_tones(0, 73, text, sizeof text), text);
+    show_note("a major third above Eb", hemotusap_get_note(E, -1, 4, 3));
+    show_note("Eb moved as C to G", hemotusap_transpose(C, 0, E, -1, G, 0));
+}
+
+static void show_voicing(const char *what, uint32_t bass, uint32_t lead)
+{
+    static const uint8_t classes[] = {0, 4, 7, 11};
+    static const uint8_t intervals[] = {
+        HEMOTUSAP_INTERVAL_UNISON, HEMOTUSAP_INTERVAL_MAJOR_THIRD,
+        HEMOTUSAP_INTERVAL_PERFECT_FIFTH, HEMOTUSAP_INTERVAL_MAJOR_SEVENTH};
+    uint8_t keys[HEMOTUSAP_VOICING_ROOM];
+    int64_t written = hemotusap_voicing(0, bass, classes, sizeof classes, intervals,
+                                        sizeof intervals, lead, keys, sizeof keys);
+    printf("%s:", what);
+    for (int64_t at = 0; at < written; at++)
+        printf(" %d", keys[at]);
+    printf("\n");
+}
+
+int main(void)
+{
+    symbols();
+    sets();
+    qualities();
+    notes();
+    show_voicing("CMa7", HEMOTUSAP_NO_BASS, HEMOTUSAP_NO_LEAD);
+    show_voicing("CMa7/E, lead 71", 4, 71);
+}
