@@ -79,7 +79,7 @@ prepare_machine() { # TARGET; it sets `compiler` and `emulator`
       need x86_64-linux-gnu-gcc gcc-x86-64-linux-gnu libc6-dev-amd64-cross
       compiler=(x86_64-linux-gnu-gcc -static)
       . tools/kit.bash
-      emulator=("$kit/$programs/qemu-x86_64")
+      emulator=("$kit/$toolchain/bin/qemu-x86_64")
       [ -x "${emulator[0]}" ] || fail "the kit has no emulator at ${emulator[0]}"
       ;;
     *) fail "no way known to run programs of $1" ;;

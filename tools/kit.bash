@@ -1,5 +1,5 @@
-# Where the kit stands, and, below it, its compiler for the machine at hand.
+# Where the kit stands, and, below it, the compiler, emulator and C library for the machine at hand.
 
 guide=$(rt doc)
 kit=${guide%/*/*}
-programs=on/$(uname -m)/toolchain/bin
+toolchain=on/$(uname -m)/toolchain
