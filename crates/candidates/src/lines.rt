@@ -8,8 +8,7 @@ use inference::normalize::put_suffix;
 use names::table::class_name;
 ghost use mathlib.Core.Path.{_≡_};
 ghost use mathlib.Core.Bool.{true};
-ghost use mathlib.Core.List.{[]};
-ghost use Prim.Native.Nat.{_+_, _<_, _≤_};
+ghost use Prim.Native.Nat.{_<_, _≤_};
 ghost use lib.ListN.{length};
 ghost use Rattle.answer.specs.Replies.{text, Answered};
 ghost use Rattle.intervals.specs.Sets.{has, classCount};
@@ -17,49 +16,30 @@ ghost use Rattle.answer.specs.Written.{Writes};
 ghost use Rattle.answer.specs.Words.{long, textOf};
 ghost use Rattle.names.specs.Names.{flats};
 ghost use Rattle.candidates.specs.Keys.{classSet};
-ghost use Rattle.candidates.specs.Candidates.{chord, over, line, allLines, candidatesOf};
+ghost use Rattle.candidates.specs.Candidates.{over, line, allLines, candidatesOf};
 ghost use Rattle.candidates.specs.private.Finds.{Classes};
 
-// A slash, and the end of a line.
-const SLASH: u64 = 0x010000000000002f;
+const SLASH: u64 = 0x2f;
 
 const LINE_FEED: u64 = 0x010000000000000a;
 
-// A class as a root: its name, and the suffix of the set seen from it.
-fn put_chord(out: &mut [u8], name: u64, class: u32, set: u32) -> usize
-    requires { ⌜ (long name ≤ 2) × (class < 12) × (set < 4096) × (has set class ≡ true) × (74 ≤ length (now out)) ⌝ }
-    ensures { λ r. ⌜ Writes (now (out .entry)) 0 (chord (textOf name) set class) r (now (out .exit)) ⌝ }
+// What a candidate other than the first ends with, as one word: a slash, and the name of the first class.
+fn over_name(first: u64) -> u64
+    requires { ⌜ long first ≤ 2 ⌝ }
+    ensures { λ r. ⌜ (textOf r ≡ over (textOf first)) × (long r ≤ 3) ⌝ }
+{
+    (first / 0x100_0000_0000_0000 + 1) * 0x100_0000_0000_0000 + first % 0x1_0000 * 0x100 + SLASH
+}
+
+// A candidate: a class's name, the suffix of the set seen from it, and what stands behind that.
+fn put_line(out: &mut [u8], name: u64, class: u32, set: u32, behind: u64) -> usize
+    requires { ⌜ (long name ≤ 2) × (class < 12) × (set < 4096) × (has set class ≡ true) × (long behind ≤ 3) × (80 ≤ length (now out)) ⌝ }
+    ensures { λ r. ⌜ Writes (now (out .entry)) 0 (line (textOf name) set (textOf behind) class) r (now (out .exit)) ⌝ }
 {
     let named = put(out, 0, name);
-    put_suffix(out, named, seen_from(class, set))
-}
-
-// A slash, and the name of the first class.
-fn put_over(out: &mut [u8], at: usize, first: u64) -> usize
-    requires { ⌜ (long first ≤ 2) × (at + 9 ≤ length (now out)) ⌝ }
-    ensures { λ r. ⌜ Writes (now (out .entry)) at (over (textOf first)) r (now (out .exit)) ⌝ }
-{
-    let slashed = put(out, at, SLASH);
-    put(out, slashed, first)
-}
-
-// The candidate of the first class.
-fn put_first(out: &mut [u8], name: u64, class: u32, set: u32) -> usize
-    requires { ⌜ (long name ≤ 2) × (class < 12) × (set < 4096) × (has set class ≡ true) × (80 ≤ length (now out)) ⌝ }
-    ensures { λ r. ⌜ Writes (now (out .entry)) 0 (line (textOf name) set [] class) r (now (out .exit)) ⌝ }
-{
-    let end = put_chord(out, name, class, set);
-    put(out, end, LINE_FEED)
-}
-
-// The candidate of another class, over the first's name.
-fn put_next(out: &mut [u8], name: u64, class: u32, first: u64, set: u32) -> usize
-    requires { ⌜ (long name ≤ 2) × (class < 12) × (set < 4096) × (has set class ≡ true) × (80 ≤ length (now out)) × (long first ≤ 2) ⌝ }
-    ensures { λ r. ⌜ Writes (now (out .entry)) 0 (line (textOf name) set (over (textOf first)) class) r (now (out .exit)) ⌝ }
-{
-    let end = put_chord(out, name, class, set);
-    let over = put_over(out, end, first);
-    put(out, over, LINE_FEED)
+    let end = put_suffix(out, named, seen_from(class, set));
+    let whole = put(out, end, behind);
+    put(out, whole, LINE_FEED)
 }
 
 // The candidates of the classes of a set, in their order: each goes into the part of `out` that is still free.
@@ -72,12 +52,13 @@ fn put_lines(out: &mut [u8], order: &[u8], set: u32) -> usize
     }
     let root = wide(order[0]);
     let first = class_name(root);
-    let mut used = put_first(out, first, root, set);
+    let behind = over_name(first);
+    let mut used = put_line(out, first, root, set, 0);
     let mut i = 1;
     while i < order.len() {
         let class = wide(order[i]);
         let name = class_name(class);
-        used += put_next(&mut out[used..], name, class, first, set);
+        used += put_line(&mut out[used..], name, class, set, behind);
         i += 1;
     }
     used

@@ -11,6 +11,7 @@ use denote.Ref.{now}
 use borrow.Author.Needs.{needs}
 use borrow.Rule.Slice.PartMut.{putMid}
 use Rattle.intervals.specs.Sets.{has}
+use Rattle.answer.specs.Words.{digits, long, textOf}
 use Rattle.answer.specs.Written.{Writes}
 use Rattle.answer.proofs.Parts.{part-puts, part-long}
 use Rattle.answer.proofs.Writing.{also, same-text, Puts, SoFar, so-far-none, so-far-next, so-far-all}
@@ -34,11 +35,11 @@ abbrev left : ℕ → ℕ → List ℕ → ℕ → List ℕ
 left set root order i = lines table set (over (nameOf table root)) (drop i order)
 
 abbrev Inv-loop : tie.InvT-loop
-Inv-loop out₀ order set root first used₀ i₀ out used i =
+Inv-loop out₀ order set root first behind used₀ i₀ out used i =
     SoFar out₀ used₀ (left set root order 1) out used (left set root order i) × (used ≤ 70 * i) × (i ≤ length order)
 
 abbrev μ-loop : tie.MeasureT-loop
-μ-loop out₀ order set root first used₀ i₀ out used i = length order - i
+μ-loop out₀ order set root first behind used₀ i₀ out used i = length order - i
 
 -- the first class is one of the set
 first-is : (c : tie.After-wide Inv-loop μ-loop) → (c .wide .result < 12) × (has (c .before .before .before .before .before .args .set) (c .wide .result) ≡ true)
@@ -47,12 +48,15 @@ first-is c =
     let k = s .pre .2 0 (omega arith) in
     (rw (c .wide .ensures) (k .0), rw (c .wide .ensures) (k .1))
 
+first-long : (c : tie.After-class-name Inv-loop μ-loop) → long (c .class-name .result) ≤ 2
+first-long c = name-long table brief (c .before .wide .result) _ (c .class-name .ensures)
+
 -- and so is a later one
 next-is : (c : tie.After-wide2 Inv-loop μ-loop)
-    → (c .wide2 .result < 12) × (has (c .before .before .before .before .before .before .before .before .before .before .before .before .before .before .args .set) (c .wide2 .result) ≡ true)
+    → (c .wide2 .result < 12) × (has (c .before .before .before .before .before .before .before .before .before .before .before .before .before .before .before .args .set) (c .wide2 .result) ≡ true)
 next-is c =
     let l = c .before .before .before in
-    let s = l .before .before .before .before .before .before .before .before .before .before .before in
+    let s = l .before .before .before .before .before .before .before .before .before .before .before .before in
     let k = s .pre .2 (l .loop .i) (omega arith) in
     (rw (c .wide2 .ensures) (k .0), rw (c .wide2 .ensures) (k .1))
 
@@ -61,69 +65,71 @@ roomy : (c : tie.In-loop Inv-loop μ-loop) → c .before .loop .used + 80 ≤ le
 roomy c =
     let l = c .before in
     let f = l .before .before .before in
-    let s = f .before .before .before .before .before .before .before .before in
-    omega (arith, l .loop .inv .1, l .loop .inv .0 .puts .same, f .put-first .kept .0, s .pre .1, s .pre .3)
+    let s = f .before .before .before .before .before .before .before .before .before in
+    omega (arith, l .loop .inv .1, l .loop .inv .0 .puts .same, f .put-line .kept .0, s .pre .1, s .pre .3)
 
 -- the first line
-wrote-first : (c : tie.After-put-first Inv-loop μ-loop)
-    → let w = c .before .before .before in
+wrote-first : (c : tie.After-put-line Inv-loop μ-loop)
+    → let w = c .before .before .before .before in
     let s = w .before .before .before .before .before in
-    Writes (now (s .args .out)) 0 (line (nameOf table (w .wide .result)) (s .args .set) [] (w .wide .result)) (c .put-first .result) (c .put-first .last .0)
+    Writes (now (s .args .out)) 0 (line (nameOf table (w .wide .result)) (s .args .set) [] (w .wide .result)) (c .put-line .result) (c .put-line .last .0)
+unfolding textOf digits
 wrote-first c =
-    let n = c .before .before in
+    let n = c .before .before .before in
     let w = n .before in
     let s = w .before .before .before .before .before in
-    same-text (ap (λ (t : List ℕ). line t (s .args .set) [] (w .wide .result)) (name-text table brief (w .wide .result) _ (n .class-name .ensures))) (c .put-first .ensures)
+    same-text (ap (λ (t : List ℕ). line t (s .args .set) [] (w .wide .result)) (name-text table brief (w .wide .result) _ (n .class-name .ensures))) (c .put-line .ensures)
 
 loop-holds : tie.Need-loop-holds Inv-loop μ-loop
 loop-holds c =
     let f = c .before .before in
-    let w = f .before .before .before in
+    let w = f .before .before .before .before in
     let s = w .before .before .before .before .before in
     let k = first-is w in
     let short = line-length (nameOf table (w .wide .result)) (name-length table brief _) (s .args .set) (w .wide .result) (k .0) (k .1) [] (omega arith) in
     (so-far-none _ _ _, omega (arith, short, wrote-first f .place), omega arith)
 
-put-next-requires : tie.Need-put-next-requires Inv-loop μ-loop
-put-next-requires c κs =
+put-line-requires : tie.Need-put-line-requires-2 Inv-loop μ-loop
+put-line-requires c κs =
     let n = c .before in
     let w = n .before in
     let l = w .before .before .before in
-    let first = l .before .before .before .before .before in
-    let s = first .before .before .before .before .before .before in (
+    let below = l .before .before .before .before .before in
+    let s = below .before .before .before .before .before .before .before in (
       name-long table brief (w .wide2 .result) _ (n .class-name2 .ensures),
       next-is w .0,
       s .pre .0,
       next-is w .1,
+      below .over-name .ensures .1,
       part-long (l .loop .out) (l .loop .used) 80 (roomy (w .before .before)),
-      name-long table brief (first .before .wide .result) _ (first .class-name .ensures),
     )
 
 -- one line more, in the part of the buffer that is still free
-wrote-next : (c : tie.After-put-next Inv-loop μ-loop)
+wrote-next : (c : tie.After-put-line2 Inv-loop μ-loop)
     → let w = c .before .before .before in
     let l = w .before .before .before in
-    let root = l .before .before .before .before .before .before in
+    let root = l .before .before .before .before .before .before .before in
     let s = root .before .before .before .before .before in
     Puts (l .loop .out) (l .loop .used) (line (nameOf table (w .wide2 .result)) (s .args .set) (over (nameOf table (root .wide .result))) (w .wide2 .result))
-    (l .loop .used + c .put-next .result) (putMid (l .loop .used) (length (l .loop .out) - l .loop .used) (l .loop .out) (c .put-next .last .0))
+    (l .loop .used + c .put-line2 .result) (putMid (l .loop .used) (length (l .loop .out) - l .loop .used) (l .loop .out) (c .put-line2 .last .0))
 wrote-next c =
     let n = c .before .before in
     let w = n .before in
     let l = w .before .before .before in
-    let first = l .before .before .before .before .before in
+    let below = l .before .before .before .before .before in
+    let first = below .before in
     let s = first .before .before .before .before .before .before in
     let name = name-text table brief (w .wide2 .result) _ (n .class-name2 .ensures) in
-    let below = name-text table brief (first .before .wide .result) _ (first .class-name .ensures) in
+    let behind = below .over-name .ensures .0 ∙ ap over (name-text table brief (first .before .wide .result) _ (first .class-name .ensures)) in
     part-puts (l .loop .out) (l .loop .used) (length (l .loop .out) - l .loop .used) (omega (arith, roomy (w .before .before)))
-    (same-text (ap₂ (λ (t u : List ℕ). line t (s .args .set) (over u) (w .wide2 .result)) name below) (c .put-next .ensures)) (c .put-next .kept .0)
+    (same-text (ap₂ (λ (t u : List ℕ). line t (s .args .set) u (w .wide2 .result)) name behind) (c .put-line2 .ensures)) (c .put-line2 .kept .0)
 
 -- which has at most 70 bytes
-short-next : (c : tie.After-put-next Inv-loop μ-loop) → c .put-next .result ≤ 70
+short-next : (c : tie.After-put-line2 Inv-loop μ-loop) → c .put-line2 .result ≤ 70
 short-next c =
     let w = c .before .before .before in
     let l = w .before .before .before in
-    let root = l .before .before .before .before .before .before in
+    let root = l .before .before .before .before .before .before .before in
     let s = root .before .before .before .before .before in
     let k = next-is w in
     omega (arith, wrote-next c .wrote .place, line-length (nameOf table (w .wide2 .result)) (name-length table brief _) (s .args .set) (w .wide2 .result) (k .0) (k .1) (over (nameOf table (root .wide .result))) (over-length _ (name-length table brief _)))
@@ -133,7 +139,7 @@ loop-again c =
     let n = c .before .before in
     let w = n .before .before .before in
     let l = w .before .before .before in
-    let root = l .before .before .before .before .before .before in
+    let root = l .before .before .before .before .before .before .before in
     let s = root .before .before .before .before .before in
     let order = now (s .args .order) in
     let next = one-line table (s .args .set) order (over (nameOf table (root .wide .result))) (l .loop .i) (w .wide2 .result) (w .wide2 .ensures) (omega arith) in
@@ -144,7 +150,7 @@ unfolding lines
 returns-2 c =
     let h = c .before .loop in
     let f = c .before .before .before .before in
-    let root = f .before .before .before in
+    let root = f .before .before .before .before in
     let s = root .before .before .before .before .before in
     let order = now (s .args .order) in
     let end : h .i ≡ length order = omega (arith, h .inv .2) in
@@ -161,7 +167,8 @@ put-lines-spec =
     (λ c. omega arith)
     (λ c κs. search needs)
     (λ c κs. search needs)
-    (λ c κs. (name-long table brief (c .before .before .wide .result) _ (c .before .class-name .ensures), first-is (c .before .before) .0, c .before .before .before .before .before .before .before .pre .0, first-is (c .before .before) .1, omega (arith, c .before .before .before .before .before .before .before .pre .3)))
+    (λ c κs. first-long c)
+    (λ c κs. let n = c .before .before in (first-long n, first-is (n .before) .0, n .before .before .before .before .before .before .pre .0, first-is (n .before) .1, omega arith, omega (arith, n .before .before .before .before .before .before .pre .3)))
     loop-holds
     (λ c. omega arith)
     (λ c κs. search needs)
@@ -169,10 +176,10 @@ put-lines-spec =
     (λ c. omega (arith, roomy (c .before .before .before)))
     (λ c. omega (arith, roomy (c .before .before .before)))
     (λ c. search needs)
-    put-next-requires
+    put-line-requires
     (λ c. omega (arith, short-next (c .before .before), roomy (c .before .before .before .before .before .before .before)))
     (λ c. omega arith)
     (λ c. omega arith)
     loop-again
-    (λ c. c .before .loop .inv .0 .puts .same ∙ c .before .before .before .before .put-first .kept .0)
+    (λ c. c .before .loop .inv .0 .puts .same ∙ c .before .before .before .before .put-line .kept .0)
     returns-2)
