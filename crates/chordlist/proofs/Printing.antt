@@ -24,7 +24,7 @@ use Rattle.chordlist.specs.private.Calls.{Printed}
 pub record Fronted (t room : List ℕ) (n : ℕ) (left : List ℕ) : Type 0 where
   pub count : n ≡ length t
   pub fits : n ≤ length room
-  pub whole : left ≡ t ++ drop n room
+  pub stands : left ≡ t ++ drop n room
   pub front : take n left ≡ t
 
 pub fronted : {t room left : List ℕ} {n : ℕ} → Printed t room n left → Fronted t room n left
@@ -35,12 +35,12 @@ fronted {t} {room} {left} {n} p = go (leb (length t) (length room)) refl
     go true e =
         let count : Written n ≡ Written (length t) = p .0 ∙ rw e in
         let is : n ≡ length t = cc in
-        let whole : left ≡ t ++ drop n room = p .1 ∙ rw (e, is) in
+        let stands : left ≡ t ++ drop n room = p .1 ∙ rw (e, is) in
         record {
           count = is;
           fits = omega (arith, leb-true (length t) (length room) e);
-          whole = whole;
-          front = ap (take n) whole ∙ take-at t (drop n room) n (sym is);
+          stands = stands;
+          front = ap (take n) stands ∙ take-at t (drop n room) n (sym is);
         }
     go false e =
         let told : Written n ≡ Refused NoRoom = p .0 ∙ rw e in
@@ -48,9 +48,9 @@ fronted {t} {room} {left} {n} p = go (leb (length t) (length room)) refl
         absurd (let bottom : ⊥ = omega arith in bottom)
 
 pub by-count : (t room left : List ℕ) (n : ℕ) → n ≡ length t → n ≤ length room → left ≡ t ++ drop n room → Printed t room n left
-by-count t room left n is fits whole =
+by-count t room left n is fits stands =
     let w = written t room (omega arith) in
-    (ap Written is ∙ w .0, whole ∙ ap (λ (k : ℕ). t ++ drop k room) is ∙ w .1)
+    (ap Written is ∙ w .0, stands ∙ ap (λ (k : ℕ). t ++ drop k room) is ∙ w .1)
 
 pub no-text : (room : List ℕ) → Printed [] room 0 room
 no-text room = by-count [] room room 0 refl (omega arith) refl

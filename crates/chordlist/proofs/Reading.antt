@@ -59,7 +59,7 @@ isEnded value digits = ltb 0 digits && leb value 255
 
 code-ended : (part : List ℕ) → areDigits part ≡ true → length part ≤ 3 → isCode part ≡ isEnded (decimal 0 part) (length part)
 unfolding isCode
-code-ended part are few = rw (are, le-leb _ _ few) (simp and-true)
+code-ended part are atMostThree = rw (are, le-leb _ _ atMostThree) (simp and-true)
 
 -- a part that begins with digits and a byte that is no further digit of a code
 no-digit : (t : List ℕ) (b : ℕ) (u : List ℕ) → isDigit b && ltb (length t) 3 ≡ false → isCode (t ++ b ∷ u) ≡ false
@@ -79,10 +79,10 @@ module _ (t : List ℕ) (b : ℕ) (e : isDigit b && ltb (length t) 3 ≡ false) 
   spoiled-part (p ∷ more) = ap codesOf (onto-part t (b ∷ p) more) ∙ rw (no-digit t b p e)
 
 -- a part that is read to its end, in digits
-module _ (t : List ℕ) (are : areDigits t ≡ true) (few : length t ≤ 3) (more : List (List ℕ)) where
+module _ (t : List ℕ) (are : areDigits t ≡ true) (atMostThree : length t ≤ 3) (more : List (List ℕ)) where
   ended-part : codesOf (onto t ([] ∷ more)) ≡ cond (isEnded (decimal 0 t) (length t)) (withCode (decimal 0 t) (codesOf more)) bad
   unfolding codesOf
-  ended-part = ap codesOf (onto-part t [] more ∙ ap (λ (p : List ℕ). p ∷ more) (append-nil t)) ∙ rw (code-ended t are few)
+  ended-part = ap codesOf (onto-part t [] more ∙ ap (λ (p : List ℕ). p ∷ more) (append-nil t)) ∙ rw (code-ended t are atMostThree)
 
 -- `part` are the digits of the code that is being read
 pub record Reading (line : List ℕ) (i value digits count : ℕ) (codes : List ℕ) : Type 0 where
@@ -91,7 +91,7 @@ pub record Reading (line : List ℕ) (i value digits count : ℕ) (codes : List 
   pub are : areDigits part ≡ true
   pub long : length part ≡ digits
   pub worth : decimal 0 part ≡ value
-  pub few : digits ≤ 3
+  pub atMostThree : digits ≤ 3
   pub small : value < 10 ^ digits
   pub used : 2 * count + digits ≤ i
 
@@ -99,7 +99,7 @@ pub start : (line codes : List ℕ) → (length line ≡ 0 → ⊥) → Reading 
 unfolding withCodes codesIn onto areDigits decimal
 start [] codes other = absurd (other refl)
 start (b ∷ more) codes other =
-    record { part = []; rest = refl; are = refl; long = refl; worth = refl; few = omega arith; small = lit< tt; used = omega arith }
+    record { part = []; rest = refl; are = refl; long = refl; worth = refl; atMostThree = omega arith; small = lit< tt; used = omega arith }
 
 -- a value of at most three digits
 below : (value digits : ℕ) → digits ≤ 3 → value < 10 ^ digits → value < 1000
@@ -112,7 +112,7 @@ from line i = parts ([] ∷ []) space (drop i line)
 -- the code that is being read ends
 closed : {line codes : List ℕ} {i value digits count : ℕ} (r : Reading line i value digits count codes) (more : List (List ℕ))
     → codesOf (onto (r .part) ([] ∷ more)) ≡ cond (isEnded value digits) (withCode value (codesOf more)) bad
-closed r more = ended-part (r .part) (r .are) (omega (arith, r .few, r .long)) more ∙ rw (r .worth, r .long)
+closed r more = ended-part (r .part) (r .are) (omega (arith, r .atMostThree, r .long)) more ∙ rw (r .worth, r .long)
 
 ended-small : (value digits : ℕ) → isEnded value digits ≡ true → value % 256 ≡ value
 ended-small value digits ended =
@@ -130,7 +130,7 @@ module _ (line codes : List ℕ) (i value digits count : ℕ) (inside : i < leng
       ap (λ (l : List (List ℕ)). withCodes (take count codes) (codesOf (onto (r .part) l))) (sym (ap (parts ([] ∷ []) space) split ∙ rw e)) ∙ r .rest
 
   pub value-less : value < 1000
-  value-less = below value digits (r .few) (r .small)
+  value-less = below value digits (r .atMostThree) (r .small)
 
   module _ (more : isDigit (getD line i 0) && ltb digits 3 ≡ true) where
     pub is-digit : (48 ≤ getD line i 0) × (getD line i 0 ≤ 57)
@@ -153,7 +153,7 @@ module _ (line codes : List ℕ) (i value digits count : ℕ) (inside : i < leng
           are = digits-append (r .part) (b ∷ []) ∙ rw (r .are, is);
           long = length-append (r .part) (b ∷ []) ∙ ap (λ (n : ℕ). n + 1) (r .long);
           worth = decimal-more 0 (r .part) b ∙ ap (λ (v : ℕ). v * 10 + (b - 48)) (r .worth);
-          few = omega (arith, has-place);
+          atMostThree = omega (arith, has-place);
           small = rw (add-one digits, pow-suc) (omega (arith, r .small, is-digit .0, is-digit .1));
           used = omega (arith, r .used);
         }
@@ -162,7 +162,7 @@ module _ (line codes : List ℕ) (i value digits count : ℕ) (inside : i < leng
       → Reading line (i + 1) 0 0 (count + 1) (set codes count (value % 256))
   unfolding onto areDigits decimal
   next is-space ended room =
-      let some : 0 < digits = ltb→lt 0 digits (left (ltb 0 digits) _ (said _ ended)) in
+      let has-digits : 0 < digits = ltb→lt 0 digits (left (ltb 0 digits) _ (said _ ended)) in
       let after = codesOf (from line (i + 1)) in
       record {
         part = [];
@@ -175,7 +175,7 @@ module _ (line codes : List ℕ) (i value digits count : ℕ) (inside : i < leng
         are = refl;
         long = refl;
         worth = refl;
-        few = omega arith;
+        atMostThree = omega arith;
         small = lit< tt;
         used = omega (arith, r .used);
       }
@@ -196,7 +196,7 @@ module _ (line codes : List ℕ) (value digits count : ℕ) (r : Reading line (l
       ap (withCodes (take count codes)) (sym (ap (λ (l : List ℕ). codesOf (onto (r .part) (parts ([] ∷ []) space l))) (drop-length line) ∙ closed r [])) ∙ r .rest
 
   pub place : isEnded value digits ≡ true → length line ≤ 1024 → count < 512
-  place ended h = let some : 0 < digits = ltb→lt 0 digits (left (ltb 0 digits) _ (said _ ended)) in omega (arith, r .used)
+  place ended h = let has-digits : 0 < digits = ltb→lt 0 digits (left (ltb 0 digits) _ (said _ ended)) in omega (arith, r .used)
 
   pub read : isEnded value digits ≡ true → count < length codes → codesIn line ≡ holds (take (count + 1) (set codes count (value % 256)))
   unfolding withCode

@@ -13,21 +13,21 @@ use Rattle.chordlist.proofs.Printing.{no-text}
 use Rattle.chordlist.proofs.input.finish.Statement.{statement}
 use Rattle.chordlist.proofs.input.finish.Tie as tie
 
-none : (line : List ℕ) → length line ≡ 0 → saidAtEnd flats line ≡ []
+no-line : (line : List ℕ) → length line ≡ 0 → saidAtEnd flats line ≡ []
 unfolding saidAtEnd
-none [] e = refl
-none (b ∷ more) e = absurd (let no-way : ⊥ = omega arith in no-way)
+no-line [] e = refl
+no-line (b ∷ more) e = absurd (let no-way : ⊥ = omega arith in no-way)
 
-some : (line : List ℕ) → (length line ≡ 0 → ⊥) → saidAtEnd flats line ≡ lineText flats line
+last-line : (line : List ℕ) → (length line ≡ 0 → ⊥) → saidAtEnd flats line ≡ lineText flats line
 unfolding saidAtEnd
-some [] other = absurd (other refl)
-some (b ∷ more) other = refl
+last-line [] other = absurd (other refl)
+last-line (b ∷ more) other = refl
 
 pub finish-spec : {M : Type 1} → statement M
 finish-spec =
     tie.close
     (tie.spec
-    (λ c. rw (none (now (c .before .before .before .args .line)) (c .if1 .taken)) (no-text (now (c .before .before .before .args .out))))
+    (λ c. rw (no-line (now (c .before .before .before .args .line)) (c .if1 .taken)) (no-text (now (c .before .before .before .args .out))))
     (λ c κs. search needs)
     (λ c. search needs)
-    (λ c. rw (some _ (c .before .before .before .before .if1 .left)) (c .before .before .reply .ensures)))
+    (λ c. rw (last-line _ (c .before .before .before .before .if1 .left)) (c .before .before .reply .ensures)))
