@@ -1,5 +1,6 @@
 pub mod Parting
 pub mod Streams
+pub mod Spaced
 pub mod Reading
 pub mod Printing
 pub mod Bytewise

@@ -24,7 +24,6 @@ use Rattle.chordlist.specs.private.Calls.{Printed}
 pub record Fronted (t room : List ℕ) (n : ℕ) (left : List ℕ) : Type 0 where
   pub count : n ≡ length t
   pub fits : n ≤ length room
-  pub stands : left ≡ t ++ drop n room
   pub front : take n left ≡ t
 
 pub fronted : {t room left : List ℕ} {n : ℕ} → Printed t room n left → Fronted t room n left
@@ -39,7 +38,6 @@ fronted {t} {room} {left} {n} p = go (leb (length t) (length room)) refl
         record {
           count = is;
           fits = omega (arith, leb-true (length t) (length room) e);
-          stands = stands;
           front = ap (take n) stands ∙ take-at t (drop n room) n (sym is);
         }
     go false e =

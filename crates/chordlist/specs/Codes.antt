@@ -1,10 +1,11 @@
 -- The codes of a line: paper 01, program `chordlist`.
+use mathlib.Core.Path.{_≡_}
 use mathlib.Core.Bool.{Bool, true, cond, _&&_}
-use mathlib.Core.List.{List, [], _∷_}
+use mathlib.Core.List.{List, [], _∷_, map}
 use Prim.Native.Nat.{ℕ, _+_, _-_, _*_}
 use lib.Dec.{leb, ltb}
 use lib.ListN.{length}
-use Rattle.chordlist.specs.Parts.{parts}
+use Rattle.chordlist.specs.Parts.{parts, joined}
 
 -- what a line holds: its codes, or nothing that can be read
 pub data Line : Type 0 where
@@ -38,6 +39,18 @@ decimal number (digit ∷ more) = decimal (number * 10 + (digit - digit0)) more
 -- "decimal codes 0..255 of one to three digits"
 unfoldable pub isCode : List ℕ → Bool
 isCode part = ltb 0 (length part) && leb (length part) 3 && areDigits part && leb (decimal 0 part) 255
+
+-- each of some texts is a code
+unfoldable pub areCodes : List (List ℕ) → Bool
+areCodes [] = true
+areCodes (text ∷ more) = isCode text && areCodes more
+
+-- a line is the texts of codes, "one space between": `codesIn` below reads exactly these, a theorem (proofs/Spaced.antt)
+pub record Spaced (line codes : List ℕ) : Type 0 where
+  pub texts : List (List ℕ)
+  pub each : areCodes texts ≡ true
+  pub between : joined space texts ≡ line
+  pub worth : map (decimal 0) texts ≡ codes
 
 -- a line with a code in front
 unfoldable pub withCode : ℕ → Line → Line
