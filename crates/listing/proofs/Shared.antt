@@ -34,20 +34,20 @@ abbrev higher : ℕ → List ℕ → List ℕ
 higher k l = those (λ x. ltb k x) l
 
 -- no number stands in a list more often than `mostShared` says, told by at most n partings in a row
-unfoldable few : ℕ → List ℕ → Bool
-few zero [] = true
-few zero (x ∷ more) = false
-few (suc n) [] = true
-few (suc n) (x ∷ more) = ltb (count x more) mostShared && few n (lower x more) && few n (higher x more)
+unfoldable noneMore : ℕ → List ℕ → Bool
+noneMore zero [] = true
+noneMore zero (x ∷ more) = false
+noneMore (suc n) [] = true
+noneMore (suc n) (x ∷ more) = ltb (count x more) mostShared && noneMore n (lower x more) && noneMore n (higher x more)
 
 -- the suffixes of n rooted sets from s on, as numbers
 unfoldable suffixes : ℕ → ℕ → List ℕ
 suffixes zero s = []
 suffixes (suc n) s = low (suffixOf s) ∷ suffixes n (s + 2)
 
-all-few : T (few 40 (suffixes 2048 1))
-unfolding suffix-computed count those few suffixes low
-all-few = tt
+no-suffix-more : T (noneMore 40 (suffixes 2048 1))
+unfolding suffix-computed count those noneMore suffixes low
+no-suffix-more = tt
 
 -- a number that passes the test stands among those as often
 count-those : (p : ℕ → Bool) (v : ℕ) → p v ≡ true → (l : List ℕ) → count v l ≤ count v (those p l)
@@ -59,25 +59,25 @@ count-those p v is (x ∷ more) = by-case (p x) refl (count-those p v is more)
     by-case true e rest = omega arith
     by-case false e rest = rw (ne-eqb v x (λ same. absurd (said false (sym e ∙ ap p (sym same) ∙ is)))) (omega arith)
 
-few-says : (n : ℕ) (l : List ℕ) → T (few n l) → (v : ℕ) → count v l ≤ mostShared
-unfolding count few
-few-says zero [] t v = omega arith
-few-says zero (x ∷ more) t v = absurd t
-few-says (suc n) [] t v = omega arith
-few-says (suc n) (x ∷ more) t v = by-case (eqb v x) refl (ltb v x) refl (few-says n (lower x more) below v) (few-says n (higher x more) above v)
+none-more : (n : ℕ) (l : List ℕ) → T (noneMore n l) → (v : ℕ) → count v l ≤ mostShared
+unfolding count noneMore
+none-more zero [] t v = omega arith
+none-more zero (x ∷ more) t v = absurd t
+none-more (suc n) [] t v = omega arith
+none-more (suc n) (x ∷ more) t v = by-case (eqb v x) refl (ltb v x) refl (none-more n (lower x more) below v) (none-more n (higher x more) above v)
   where
-    here : T (ltb (count x more) mostShared && few n (lower x more))
-    here = left (ltb (count x more) mostShared && few n (lower x more)) (few n (higher x more)) t
+    here : T (ltb (count x more) mostShared && noneMore n (lower x more))
+    here = left (ltb (count x more) mostShared && noneMore n (lower x more)) (noneMore n (higher x more)) t
 
-    below : T (few n (lower x more))
-    below = right (ltb (count x more) mostShared) (few n (lower x more)) here
+    below : T (noneMore n (lower x more))
+    below = right (ltb (count x more) mostShared) (noneMore n (lower x more)) here
 
-    above : T (few n (higher x more))
-    above = right (ltb (count x more) mostShared && few n (lower x more)) (few n (higher x more)) t
+    above : T (noneMore n (higher x more))
+    above = right (ltb (count x more) mostShared && noneMore n (lower x more)) (noneMore n (higher x more)) t
 
     by-case : (b : Bool) → eqb v x ≡ b → (c : Bool) → ltb v x ≡ c → count v (lower x more) ≤ mostShared → count v (higher x more) ≤ mostShared
         → cond b 1 0 + count v more ≤ mostShared
-    by-case true e c f lo hi = rw (eqb-true v x e) (omega (arith, ltb→lt (count x more) mostShared (left (ltb (count x more) mostShared) (few n (lower x more)) here)))
+    by-case true e c f lo hi = rw (eqb-true v x e) (omega (arith, ltb→lt (count x more) mostShared (left (ltb (count x more) mostShared) (noneMore n (lower x more)) here)))
     by-case false e true f lo hi = omega (arith, count-those (λ y. ltb y x) v f more)
     by-case false e false f lo hi = omega (arith, count-those (λ y. ltb x y) v (lt-ltb x v (omega (arith, ltb-false v x f, eqb-false v x e))) more)
 
@@ -94,7 +94,7 @@ found-counted t (suc n) s = by-case (same t (suffixOf s)) refl (found-counted t 
 
 pub sixteen : (t : List ℕ) → length (setsOf t) ≤ mostShared
 unfolding setsOf
-sixteen t = omega (arith, found-counted t 2048 1, few-says 40 (suffixes 2048 1) all-few (low t))
+sixteen t = omega (arith, found-counted t 2048 1, none-more 40 (suffixes 2048 1) no-suffix-more (low t))
 
 pub listing-room : (t : List ℕ) → length (listingOf t) ≤ 2 * mostShared
 listing-room t = omega (arith, two-bytes t, sixteen t)
