@@ -86,9 +86,9 @@ low-less (b ∷ more) h =
     rw pow-succ' (omega arith)
 
 module _ (t : List ℕ) (short : T (isShort t)) where
-  seven : length t ≤ 7
+  pub short-length : length t ≤ 7
   unfolding isShort
-  seven = leb→le (length t) 7 (left (leb (length t) 7) (areBytes t) short)
+  short-length = leb→le (length t) 7 (left (leb (length t) 7) (areBytes t) short)
 
   are-bytes : T (areBytes t)
   unfolding isShort
@@ -97,18 +97,18 @@ module _ (t : List ℕ) (short : T (isShort t)) where
   long-packed : long (packed t) ≡ length t
   unfolding packed
   long-packed =
-      let less : low t < 256 ^ 7 = lt-of-lt-of-le (low-less t are-bytes) (pow-le-pow-right (lit< tt) seven) in
+      let less : low t < 256 ^ 7 = lt-of-lt-of-le (low-less t are-bytes) (pow-le-pow-right (lit< tt) short-length) in
       omega arith
 
   -- the word as `digits-low` reads it
   split : packed t ≡ low t + 256 ^ length t * (256 ^ (7 - length t) * length t)
   unfolding packed
   split =
-      let e : 7 ≡ length t + (7 - length t) = omega (arith, seven) in
+      let e : 7 ≡ length t + (7 - length t) = omega (arith, short-length) in
       ap (λ (x : ℕ). low t + x) (ap (λ (n : ℕ). 256 ^ n * length t) e ∙ rw (pow-add, mul-assoc))
 
   take-packed : take (length t) (digits 8 (packed t)) ≡ t
-  take-packed = rw split (digits-low t are-bytes 8 (256 ^ (7 - length t) * length t) (omega (arith, seven)))
+  take-packed = rw split (digits-low t are-bytes 8 (256 ^ (7 - length t) * length t) (omega (arith, short-length)))
 
   -- the word of a text, put at a place of a buffer
   module _ (l : List ℕ) (i : ℕ) (room : i + 8 ≤ length l) where
@@ -120,7 +120,7 @@ module _ (t : List ℕ) (short : T (isShort t)) where
     unfolding putAt digits
     put-text =
         let whole : length (take i l) ≡ i = length-take-le i l (omega arith) in
-        let within : i + length t ≤ length (take i l ++ digits 8 (packed t)) = simp length-append (omega (arith, seven)) in
+        let within : i + length t ≤ length (take i l ++ digits 8 (packed t)) = simp length-append (omega (arith, short-length)) in
         rw (le-leb _ _ room)
         (take-append-le (i + length t) (take i l ++ digits 8 (packed t)) (drop (i + 8) l) within
         ∙ subst (λ (j : ℕ). take (j + length t) (take i l ++ digits 8 (packed t)) ≡ take i l ++ take (length t) (digits 8 (packed t))) whole

@@ -15,8 +15,9 @@ use lib.ListN.{length}
 use Rattle.answer.specs.Words.{packed}
 use Rattle.answer.proofs.Arms.{Nones, nones}
 use Rattle.answer.proofs.Tests.{all, at}
-use Rattle.intervals.specs.Intervals.{Tells, intervals, nth, numbered, numberOf, setOf, semitonesOf, degreeOf, toDegreeOf, notationOf}
+use Rattle.intervals.specs.Intervals.{intervals, nth, numbered, numberOf, setOf, semitonesOf, degreeOf, toDegreeOf, notationOf}
 use Rattle.intervals.specs.Sets.{bits}
+use Rattle.intervals.specs.private.Rows.{Tells}
 use Rattle.intervals.specs.declared.interval.Interval.{Interval}
 use Rattle.intervals.specs.declared.interval.Interval.the-variants.{Unison, MinorSecond, MajorSecond, MinorThird, MajorThird, PerfectFourth, AugmentedFourth, DiminishedFifth, PerfectFifth, AugmentedFifth, MinorSixth, MajorSixth, DiminishedSeventh, MinorSeventh, MajorSeventh, Octave, FlatNinth, Ninth, SharpNinth, Eleventh, SharpEleventh, FlatThirteenth, Thirteenth}
 use Rattle.intervals.specs.declared.interval.About.{About}

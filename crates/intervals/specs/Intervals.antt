@@ -1,16 +1,14 @@
 -- Intervals and degrees: paper 01, "Sets and intervals" ("Intervals are 0..22 in the order of 004"), and the tables of 004.
-use mathlib.Core.Path.{_≡_}
 use mathlib.Core.List.{List, [], _∷_, map}
 use Prim.Native.Nat.{ℕ, zero, suc, _%_}
 use Prim.Native.String.{String}
-use Rattle.answer.specs.Words.{bytes, packed}
+use Rattle.answer.specs.Words.{bytes}
 use Rattle.intervals.specs.Sets.{bits}
 use Rattle.intervals.specs.declared.interval.Interval.{Interval}
 use Rattle.intervals.specs.declared.interval.Interval.the-variants.{Unison, MinorSecond, MajorSecond, MinorThird, MajorThird, PerfectFourth, AugmentedFourth, DiminishedFifth, PerfectFifth, AugmentedFifth, MinorSixth, MajorSixth, DiminishedSeventh, MinorSeventh, MajorSeventh, Octave, FlatNinth, Ninth, SharpNinth, Eleventh, SharpEleventh, FlatThirteenth, Thirteenth}
 use Rattle.intervals.specs.declared.interval.IntDegree.{IntDegree}
 use Rattle.intervals.specs.declared.interval.IntDegree.the-variants.{Root, Second, Third, Fourth, Fifth, Sixth, Seventh}
 use Rattle.intervals.specs.declared.interval.IntDegree.the-variants as Degree
-use Rattle.intervals.specs.declared.interval.About.{About}
 use Rattle.intervals.specs.declared.interval.Numbered.{Numbered}
 use Rattle.intervals.specs.declared.interval.Numbered.the-variants.{Is, Nothing}
 
@@ -90,14 +88,6 @@ toDegreeOf i = rowOf i .toDegree
 -- how a chord writes it
 abbrev pub notationOf : Interval → List ℕ
 notationOf i = rowOf i .notation
-
--- a row of the code's table has that, with how the interval is written as a word
-pub record Tells (i : Interval) (row : About) : Type 0 where
-  pub number : row .0 ≡ numberOf i
-  pub semitones : row .1 ≡ semitonesOf i
-  pub degree : row .2 ≡ degreeOf i
-  pub toDegree : row .3 ≡ toDegreeOf i
-  pub notation : row .4 ≡ packed (notationOf i)
 
 -- the pitch class of an interval
 abbrev pub classOf : Interval → ℕ

@@ -1,7 +1,8 @@
 // Intervals and their degrees, as the Rust's `chord/interval.rs` has them: one table, a row for each interval.
 ghost use mathlib.Core.Path.{_≡_};
 ghost use Rattle.answer.specs.Words.{packed};
-ghost use Rattle.intervals.specs.Intervals.{Tells, numbered, numberOf, semitonesOf, degreeOf, toDegreeOf, notationOf, numericOf};
+ghost use Rattle.intervals.specs.private.Rows.{Tells};
+ghost use Rattle.intervals.specs.Intervals.{numbered, numberOf, semitonesOf, degreeOf, toDegreeOf, notationOf, numericOf};
 
 pub enum Interval {
     Unison,

@@ -1,2 +1,2 @@
 pub mod Names
-pub mod Rows
+pub mod private

@@ -6,7 +6,7 @@ use notes::note::NoteAnswer;
 ghost use mathlib.Core.Path.{_≡_};
 ghost use Rattle.answer.specs.Words.{packed};
 ghost use Rattle.names.specs.Names.{flats, nameOf, noteIn};
-ghost use Rattle.names.specs.Rows.{Tells};
+ghost use Rattle.names.specs.private.Rows.{Tells};
 
 type A = Accidental;
 

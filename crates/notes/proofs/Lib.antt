@@ -2,3 +2,4 @@ pub mod Counts
 pub mod Moves
 pub mod Names
 pub mod Determined
+pub mod Sounding

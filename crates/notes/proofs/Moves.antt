@@ -13,7 +13,7 @@ use lib.IntN.{ℤ, pos, negsuc, _+ℤ_, _-ℤ_}
 use borrow.Author.Tests.{lt-ltb, le-ltb}
 use Rattle.answer.proofs.Tests.{left, right, is-true, said, all, at}
 use Rattle.notes.specs.Notes.{isCount, countOf, isNote, natural, mod12, semitone, nearest}
-use Rattle.notes.specs.Heights.{heightOf}
+use Rattle.notes.specs.private.Heights.{heightOf}
 use Rattle.notes.specs.declared.note.Note.{Note}
 use Rattle.notes.proofs.Counts.{lowered, no-height, height-less, lowered-height}
 

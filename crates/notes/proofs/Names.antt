@@ -1,17 +1,19 @@
 -- The text of a note, by a test of the seven letters at the thirteen heights.
-use mathlib.Core.Path.{_≡_, subst}
-use mathlib.Core.Bool.{Bool, true, _&&_}
+use mathlib.Core.Path.{_≡_, refl, subst}
+use mathlib.Core.Bool.{Bool, true, false, cond, _&&_}
 use mathlib.Core.List.{List, _∷_}
 use Prim.Native.Nat.{ℕ}
 use lib.Dec.{T, eqb, eqb→eq}
 use lib.IntN.{ℤ}
 use Rattle.answer.specs.Words.{bytes}
 use Rattle.answer.specs.Lines.{lineFeeds}
-use Rattle.answer.proofs.Digits.{isShort, areBytes}
+use Rattle.answer.specs.Replies.{AtMost, refuse, text}
+use Rattle.answer.specs.declared.refusal.Refusal.the-variants.{BadNote}
+use Rattle.answer.proofs.Digits.{isShort, areBytes, short-length}
 use Rattle.answer.proofs.Tests.{left, right, all, at}
 use Rattle.notes.specs.Notes.{countOf, isNote}
-use Rattle.notes.specs.NoteText.{letterName, signs, noteName}
-use Rattle.notes.specs.Heights.{heightOf}
+use Rattle.notes.specs.NoteText.{letterName, signs, noteName, noteReply}
+use Rattle.notes.specs.private.Heights.{heightOf}
 use Rattle.notes.specs.declared.note.Note.{Note}
 use Rattle.notes.proofs.Counts.{lowered, lowered-height}
 use Rattle.notes.proofs.Moves.{letter-less, is-count, height-is}
@@ -42,3 +44,12 @@ module _ (n : Note) (note : isNote n ≡ true) where
   pub name-line : lineFeeds (noteName signs n) ≡ 0
   unfolding isLineWord
   name-line = eqb→eq (lineFeeds (noteName signs n)) 0 (right (isShort (noteName signs n)) _ is-fine)
+
+-- no note's text has more than seven bytes: the room of a call that writes it
+pub note-text-room : (n : Note) → AtMost 7 (noteReply signs n)
+unfolding noteReply
+note-text-room n = by-note (isNote n) refl
+  where
+    by-note : (b : Bool) → isNote n ≡ b → AtMost 7 (cond b (text (noteName signs n)) (refuse BadNote))
+    by-note true note = short-length _ (name-short n note)
+    by-note false other = tt

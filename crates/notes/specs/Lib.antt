@@ -1,3 +1,3 @@
 pub mod Notes
 pub mod NoteText
-pub mod Heights
+pub mod private

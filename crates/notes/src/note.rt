@@ -11,7 +11,7 @@ ghost use Rattle.answer.specs.Replies.{Answered};
 ghost use Rattle.answer.specs.Words.{packed};
 ghost use Rattle.notes.specs.Notes.{countOf, noteOf, isNote, natural, semitone, spelled, getNote, semitoneAnswer, getNoteAnswer, transposeAnswer};
 ghost use Rattle.notes.specs.NoteText.{letterName, signs, noteName, noteReply};
-ghost use Rattle.notes.specs.Heights.{heightOf, behindLetter};
+ghost use Rattle.notes.specs.private.Heights.{heightOf, behindLetter};
 
 // No accidental, or so many sharps; flats are negative.
 pub enum Accidental {

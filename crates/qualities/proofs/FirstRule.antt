@@ -4,7 +4,7 @@
 --     tests, first   the quality by the code's tests and by the paper's rules
 --     answer         what the chain comes to is the quality
 --     chained        that, by the tests that the code made
-use mathlib.Core.Path.{_≡_, refl, ap, ap₂, _∙_}
+use mathlib.Core.Path.{_≡_, refl, ap₂, _∙_}
 use mathlib.Core.Bool.{Bool, true, cond, _&&_, and-true}
 use mathlib.Core.List.{List, [], _∷_, _++_}
 use Prim.Native.Nat.{ℕ, _<_}

@@ -2,8 +2,8 @@
 --     kept          the row of a quality tells of it
 use mathlib.Core.Path.{_≡_, sym, ap}
 use Rattle.qualities.specs.Qualities.{qualityNumber}
-use Rattle.qualities.specs.Masks as Masks
 use Rattle.qualities.specs.Masks.{ownBits, alterationBits, extensionBits, stackBits}
+use Rattle.qualities.specs.private.Rows.{Tells}
 use Rattle.qualities.specs.declared.quality.About as quality
 use Rattle.qualities.specs.declared.quality.ChordQuality.{ChordQuality}
 
@@ -11,7 +11,7 @@ use Rattle.qualities.specs.declared.quality.ChordQuality.{ChordQuality}
 abbrev rowKept : ChordQuality → quality.About
 rowKept q = record { 0 = qualityNumber q; 1 = ownBits q; 2 = alterationBits q; 3 = extensionBits q; 4 = stackBits q }
 
-pub kept : (q k : ChordQuality) → q ≡ k → Masks.Tells q (rowKept k)
+pub kept : (q k : ChordQuality) → q ≡ k → Tells q (rowKept k)
 kept q k e =
     record {
       number = ap qualityNumber (sym e);

@@ -1,2 +1,3 @@
 pub mod Qualities
 pub mod Masks
+pub mod private

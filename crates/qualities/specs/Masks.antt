@@ -1,5 +1,4 @@
 -- What 003 keeps for each quality, from which the suffix is made.
-use mathlib.Core.Path.{_≡_}
 use mathlib.Core.List.{List, [], _∷_, map}
 use Prim.Native.Nat.{ℕ}
 use Rattle.intervals.specs.Sets.{bits}
@@ -8,8 +7,6 @@ use Rattle.intervals.specs.declared.interval.Interval.{Interval}
 use Rattle.intervals.specs.declared.interval.Interval.the-variants.{DiminishedFifth, AugmentedFifth, MinorSixth, MajorSixth, MajorSeventh, FlatNinth, Ninth, SharpNinth, Eleventh, SharpEleventh, FlatThirteenth, Thirteenth}
 use Rattle.intervals.specs.declared.interval.IntDegree.{IntDegree}
 use Rattle.intervals.specs.declared.interval.IntDegree.the-variants as Degree
-use Rattle.qualities.specs.Qualities.{qualityNumber}
-use Rattle.qualities.specs.declared.quality.About.{About}
 use Rattle.qualities.specs.declared.quality.ChordQuality.{ChordQuality}
 use Rattle.qualities.specs.declared.quality.ChordQuality.the-variants.{Maj, Maj6, Maj7, Dominant7, Mi, Mi6, Mi7, MiMaj7, Augmented, Diminished, Diminished7, Power, Bass}
 
@@ -92,11 +89,3 @@ extensionBits q = bits (map numberOf (maskOf q .extensions))
 -- the degrees of its stack
 abbrev pub stackBits : ChordQuality → ℕ
 stackBits q = bits (map numericOf (maskOf q .stack))
-
--- a row of the code's table has that, with the quality's number
-pub record Tells (q : ChordQuality) (row : About) : Type 0 where
-  pub number : row .0 ≡ qualityNumber q
-  pub own : row .1 ≡ ownBits q
-  pub alterations : row .2 ≡ alterationBits q
-  pub extensions : row .3 ≡ extensionBits q
-  pub stack : row .4 ≡ stackBits q

@@ -17,7 +17,8 @@ use intervals::set::LAST_SET;
 ghost use mathlib.Core.Path.{_≡_};
 ghost use Prim.Native.Nat.{_<_};
 ghost use Rattle.qualities.specs.Qualities.{qualityOf, qualityNumber, qualityAnswer};
-ghost use Rattle.qualities.specs.Masks.{Tells, ownBits, alterationBits, extensionBits, stackBits};
+ghost use Rattle.qualities.specs.private.Rows.{Tells};
+ghost use Rattle.qualities.specs.Masks.{ownBits, alterationBits, extensionBits, stackBits};
 
 pub enum ChordQuality {
     Maj,

@@ -3,18 +3,21 @@
 --     suffix-reached   the bound, and that one set reaches it
 --     suffix-short     the paper's
 --     suffix-line      no end of line
+--     suffix-room      so no call's answer has more than 64 bytes
 use mathlib.Core.Path.{_≡_, refl}
-use mathlib.Core.Bool.{Bool, true, _&&_}
+use mathlib.Core.Bool.{Bool, true, false, cond, _&&_}
 use mathlib.Core.List.{List}
 use Prim.Native.Nat.{ℕ, _≤_}
 use native.Mathlib.Omega.{arith}
 use lib.Dec.{T, eqb, leb, eqb→eq, leb→le}
 use lib.ListN.{length}
 use Rattle.answer.specs.Lines.{lineFeeds}
+use Rattle.answer.specs.Replies.{AtMost, refuse, text}
+use Rattle.answer.specs.declared.refusal.Refusal.the-variants.{NotASet}
 use Rattle.answer.proofs.Tests.{left, right}
 use Rattle.intervals.specs.Sets.{isRooted}
 use Rattle.intervals.proofs.Rooted.{at-rooted}
-use Rattle.rules.specs.Suffix.{suffixOf, longest, reached}
+use Rattle.rules.specs.Suffix.{suffixOf, suffixReply, longest, reached}
 use Rattle.rules.proofs.Computed.{suffix-computed}
 
 -- one line of so many bytes
@@ -36,6 +39,14 @@ module _ (s : ℕ) (is : isRooted s ≡ true) where
   pub suffix-line : lineFeeds (suffixOf s) ≡ 0
   unfolding isLine
   suffix-line = eqb→eq _ _ (right (leb (length (suffixOf s)) reached) (eqb (lineFeeds (suffixOf s)) 0) (all-lines s is))
+
+pub suffix-room : (s : ℕ) → AtMost longest (suffixReply s)
+unfolding suffixReply
+suffix-room s = by-set (isRooted s) refl
+  where
+    by-set : (b : Bool) → isRooted s ≡ b → AtMost longest (cond b (text (suffixOf s)) (refuse NotASet))
+    by-set true is = suffix-short s is
+    by-set false other = tt
 
 -- a suffix of that length
 pub reached-by : length (suffixOf 3015) ≡ reached

@@ -5,10 +5,10 @@ use Prim.Native.Nat.{ℕ, zero, suc, _+_, _*_, _%_, _-_, _^_, _≤_, _<_}
 use native.Mathlib.Omega.{arith}
 use native.Mathlib.Nat.{not-suc-le-zero}
 use lib.Count.{trailingZeros}
-use lib.Dec.{T, leb, leb→le}
+use lib.Dec.{T}
 use lib.ListN.{length, take, drop, length-append}
 use Rattle.answer.specs.Words.{bytes, low, packed, placeAfter, putAt}
-use Rattle.answer.proofs.Digits.{isShort, areBytes}
+use Rattle.answer.proofs.Digits.{isShort, areBytes, short-length}
 use Rattle.answer.proofs.Tests.{left}
 use Rattle.answer.proofs.Writing.{Puts, no-puts, then-put, SoFar, so-far-none, so-far-next, so-far-all}
 use Rattle.intervals.specs.Intervals.{numbered}
@@ -38,10 +38,6 @@ pub numbered-short : (degrees : Interval → IntDegree) (root : Note) (m : Numbe
 unfolding isShort areBytes
 numbered-short degrees root (Is i) = tone-short degrees root i
 numbered-short degrees root Nothing = tt
-
-seven : (t : List ℕ) → T (isShort t) → length t ≤ 7
-unfolding isShort
-seven t short = leb→le (length t) 7 (left (leb (length t) 7) (areBytes t) short)
 
 module _ (degrees : Interval → IntDegree) (root : Note) (l₀ : List ℕ) (set : ℕ) (l : List ℕ) (at left : ℕ) (t : Row degrees root l₀ set l at left) where
   pub end : left ≡ 0 → Puts l₀ 0 (rowOf degrees root set) at l
@@ -74,7 +70,7 @@ module _ (degrees : Interval → IntDegree) (root : Note) (l₀ : List ℕ) (set
     unfolding bytes
     turn r l′ p =
         let long = ap length (f .rest) in
-        let short = seven name (numbered-short degrees root (numbered (trailingZeros 32 left))) in
+        let short = short-length name (numbered-short degrees root (numbered (trailingZeros 32 left))) in
         rw (bit left some (t .small))
         record {
           so-far = so-far-next (t .so-far) (bytes " " ++ name) _ split p;
@@ -93,7 +89,7 @@ pub row-long : (degrees : Interval → IntDegree) (root : Note) (found : List In
 unfolding spaced bytes
 row-long degrees root [] = omega arith
 row-long degrees root (i ∷ more) =
-    let short = seven _ (tone-short degrees root i) in
+    let short = short-length _ (tone-short degrees root i) in
     let rest = row-long degrees root more in
     simp length-append (omega (arith, short, rest))
 

@@ -1,15 +1,14 @@
 -- Laws of tones.
 use mathlib.Core.Path.{_≡_, _∙_}
-use mathlib.Core.Bool.{Bool, true}
-use Prim.Native.Nat.{ℕ, _-_, _<_}
-use native.Mathlib.Omega.{arith}
+use mathlib.Core.Bool.{true}
+use Prim.Native.Nat.{ℕ, _-_}
 use lib.Dec.{T, leb}
 use Rattle.answer.specs.Words.{packed}
 use Rattle.answer.proofs.Digits.{isShort}
-use Rattle.answer.proofs.Tests.{is-true, all, at}
+use Rattle.answer.proofs.Tests.{is-true, all}
 use Rattle.intervals.specs.Intervals.{intervals, nth, numbered, semitonesOf, numericOf}
 use Rattle.intervals.proofs.Rows.{at-interval}
-use Rattle.notes.specs.Notes.{isNote, isMove, spelled, getNote, getNoteAnswer}
+use Rattle.notes.specs.Notes.{isNote, isMove, getNote, getNoteAnswer}
 use Rattle.notes.specs.NoteText.{signs, noteName}
 use Rattle.notes.specs.declared.note.Note.{Note}
 use Rattle.notes.specs.declared.note.NoteAnswer.the-variants.{Is}
@@ -21,20 +20,8 @@ use Rattle.intervals.specs.declared.interval.IntDegree.the-variants as Degree
 use Rattle.intervals.specs.declared.interval.Numbered.{Numbered}
 use Rattle.intervals.specs.declared.interval.Numbered.the-variants as Number
 use Rattle.notes.proofs.Names.{name-short}
+use Rattle.notes.proofs.Sounding.{move-is}
 use Rattle.spelling.specs.Tones.{toneOf, toneName, numberedName}
-
--- on each of the seven letters, at each of the twelve pitches
-sound : ℕ → ℕ → Bool
-sound l p = isNote (spelled l p)
-
-spelled-is : (l p : ℕ) → l < 7 → p < 12 → isNote (spelled l p) ≡ true
-unfolding all sound spelled
-spelled-is l p hl hp = is-true _ (at (sound l) 12 (at (λ l. all (sound l) 12) 7 tt l hl) p hp)
-
--- what a move reaches is a note
-pub move-is : (n : Note) (semitones degree : ℕ) → isNote (getNote n semitones degree) ≡ true
-unfolding getNote
-move-is n semitones degree = spelled-is _ _ (omega arith) (omega arith)
 
 -- a move from a note is not refused
 pub move-given : (n : Note) (semitones degree : ℕ) → isNote n ≡ true → isMove semitones degree ≡ true → getNoteAnswer n semitones degree ≡ Is (getNote n semitones degree)

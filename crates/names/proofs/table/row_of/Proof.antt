@@ -9,7 +9,7 @@ use Rattle.answer.proofs.Arms.{Nones, nones}
 use Rattle.notes.specs.NoteText.{letterName, signs, noteName}
 use Rattle.notes.specs.declared.note.NoteAnswer.the-variants.{Is}
 use Rattle.names.specs.Names.{flats, nameOf, noteIn}
-use Rattle.names.specs.Rows.{Tells}
+use Rattle.names.specs.private.Rows.{Tells}
 use Rattle.names.specs.declared.table.Row.{Row}
 use Rattle.names.proofs.table.row_of.Statement.{statement}
 use Rattle.names.proofs.table.row_of.Tie as tie

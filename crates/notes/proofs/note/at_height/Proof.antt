@@ -1,5 +1,5 @@
 -- `notes::note::at_height` meets its contract: six is no accidental, and any other height has its count.
-use mathlib.Core.Path.{_≡_, ap, sym, _∙_}
+use mathlib.Core.Path.{_≡_, ap, _∙_}
 use Prim.Native.Nat.{ℕ, _<_}
 use lib.IntN.{ℤ, pos, _-ℤ_}
 use mir.Syntax.{w32}
@@ -9,7 +9,6 @@ use borrow.Author.Needs.{needs}
 use Rattle.notes.specs.Notes.{accidentalOf}
 use Rattle.notes.specs.declared.note.Accidental.{Accidental}
 use Rattle.notes.specs.declared.note.Accidental.the-variants.{Count}
-use Rattle.notes.specs.declared.note.Note.{Note}
 use Rattle.notes.proofs.Counts.{lowered, to-pos, lowered-fits, lowered-count}
 use Rattle.notes.proofs.note.at_height.Statement.{statement}
 use Rattle.notes.proofs.note.at_height.Tie as tie

@@ -3,7 +3,7 @@ use lib.Dec.{lit<}
 use Rattle.answer.specs.Words.{bytes, low, packed}
 use Rattle.answer.proofs.Arms.{nones}
 use Rattle.notes.specs.NoteText.{signs}
-use Rattle.notes.specs.Heights.{behindLetter}
+use Rattle.notes.specs.private.Heights.{behindLetter}
 use Rattle.notes.proofs.note.behind_letter.Statement.{statement}
 use Rattle.notes.proofs.note.behind_letter.Tie as tie
 

@@ -2,7 +2,6 @@
 use mathlib.Core.Path.{_≡_, ap, sym, _∙_}
 use mathlib.Core.Bool.{false}
 use native.Mathlib.Omega.{arith}
-use Prim.Native.Nat.{_<_, _^_}
 use lib.Dec.{T}
 use lib.IntN.{ℤ, pos, negℤ, natAbs, _+ℤ_}
 use lib.Signed.{ltZ, nonNeg}
@@ -10,7 +9,7 @@ use mir.Syntax.{w32}
 use mir.Val.{Fits, SFits, toZ, ofZ}
 use mir.Facts.{toZ-ofZ}
 use Rattle.notes.specs.Notes.{isCount}
-use Rattle.notes.specs.Heights.{heightOf}
+use Rattle.notes.specs.private.Heights.{heightOf}
 use Rattle.notes.proofs.Counts.{below, above, counted, plus-six, height-less}
 use Rattle.notes.proofs.note.count_height.Statement.{statement}
 use Rattle.notes.proofs.note.count_height.Tie as tie

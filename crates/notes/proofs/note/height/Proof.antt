@@ -1,10 +1,9 @@
 -- `notes::note::height` meets its contract: by the accidental's case.
-use mathlib.Core.Path.{_≡_, ap, sym, _∙_}
-use lib.IntN.{ℤ}
+use mathlib.Core.Path.{ap, sym, _∙_}
 use mir.Facts.{toZ-ofZ}
 use borrow.Author.Needs.{needs}
 use Rattle.notes.specs.Notes.{countOf}
-use Rattle.notes.specs.Heights.{heightOf}
+use Rattle.notes.specs.private.Heights.{heightOf}
 use Rattle.notes.specs.declared.note.Accidental.{Accidental}
 use Rattle.notes.proofs.note.height.Statement.{statement}
 use Rattle.notes.proofs.note.height.Tie as tie

@@ -1,5 +1,5 @@
 -- `notes::note::is_note` meets its contract: a count is a number that has a height.
-use mathlib.Core.Path.{_≡_, ap, ap₂, _∙_}
+use mathlib.Core.Path.{ap, ap₂, _∙_}
 use mathlib.Core.Bool.{_&&_}
 use Prim.Native.Nat.{ℕ}
 use lib.Dec.{leb·suc-suc, ltb}

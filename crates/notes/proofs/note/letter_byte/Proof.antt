@@ -1,5 +1,4 @@
 -- `notes::note::letter_byte` meets its contract: a test of the seven letters.
-use mathlib.Core.Path.{_≡_}
 use mathlib.Core.Bool.{Bool}
 use Prim.Native.Nat.{ℕ, _+_, _%_}
 use lib.Dec.{eqb, eqb→eq}

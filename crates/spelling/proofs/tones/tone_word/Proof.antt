@@ -5,7 +5,8 @@ use native.Mathlib.Omega.{arith}
 use borrow.Author.Needs.{needs}
 use Rattle.notes.specs.Notes.{getNote}
 use Rattle.notes.specs.declared.note.NoteAnswer.the-variants.{Is}
-use Rattle.spelling.proofs.Spelled.{move-is, move-given}
+use Rattle.notes.proofs.Sounding.{move-is}
+use Rattle.spelling.proofs.Spelled.{move-given}
 use Rattle.spelling.proofs.tones.tone_word.Statement.{statement}
 use Rattle.spelling.proofs.tones.tone_word.Tie as tie
 

@@ -1,11 +1,11 @@
 -- `notes::note::Note::new` meets its contract: a signed number whose bits are 0 is 0.
-use mathlib.Core.Path.{_≡_, refl, ap, sym, _∙_}
+use mathlib.Core.Path.{_≡_, ap, sym, _∙_}
 use lib.Dec.{T, eqb, eqb→eq, not-T}
 use lib.IntN.{ℤ, pos, negsuc}
 use mir.Syntax.{w32}
 use mir.Val.{SFits, toZ, ofZ}
 use mir.Facts.{toZ-ofZ}
-use Rattle.notes.specs.Notes.{accidentalOf, noteOf}
+use Rattle.notes.specs.Notes.{noteOf}
 use Rattle.notes.specs.declared.note.Accidental.{Accidental}
 use Rattle.notes.specs.declared.note.Accidental.the-variants.{Count}
 use Rattle.notes.proofs.Counts.{not-zero, nonzero-count}

@@ -10,7 +10,7 @@ use Rattle.answer.proofs.Digits.{packed-cons}
 use Rattle.answer.proofs.Tests.{refused, admitted}
 use Rattle.notes.specs.Notes.{countOf}
 use Rattle.notes.specs.NoteText.{letterName, signs, noteName}
-use Rattle.notes.specs.Heights.{behindLetter}
+use Rattle.notes.specs.private.Heights.{behindLetter}
 use Rattle.notes.proofs.Counts.{lowered, lowered-height}
 use Rattle.notes.proofs.Moves.{letter-less, is-count, height-is}
 use Rattle.notes.proofs.note.Note.to_word.Statement.{statement}
