@@ -87,7 +87,8 @@ prepare_machine() { # gcc|g++; it sets `compiler` and `emulator`
 
 # The differential driver, at `program`.
 build_driver() { # [FILES AND WORDS...]
-  "${compiler[@]}" -std=c11 -O2 -Wall -Wextra -Werror -I include tests/differential/*.c "$@" "$archive" -o "$program"
+  "${compiler[@]}" -std=c11 -O2 -Wall -Wextra -Werror -I include -I tests/boundary tests/boundary/*.c tests/differential/*.c "$@" \
+    "$archive" -o "$program"
 }
 
 driver() {

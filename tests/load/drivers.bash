@@ -1,7 +1,7 @@
 # How the drivers of this folder are built and the fuzzer is run.
 
-shared=(tests/load/{functions,made}.c tests/differential/{call,run,draw,lent}.c)
-options=(-std=c11 -O2 -Wall -Wextra -Werror -I include -I tests/differential -I tests/load)
+shared=(tests/load/made.c tests/boundary/*.c tests/differential/{run,draw,lent}.c)
+options=(-std=c11 -O2 -Wall -Wextra -Werror -I include -I tests/boundary -I tests/differential -I tests/load)
 
 # The fuzzer and the sanitizer come in a package of their own, which the compiler does not need.
 need_fuzzer() {

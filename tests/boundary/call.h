@@ -1,4 +1,4 @@
-/* A call of the library by name, numbers and inputs: the oracle's request is made from it. */
+/* A call of the library by its numbers and inputs: the oracle's request is made from it. */
 #ifndef CALL_H
 #define CALL_H
 
@@ -14,8 +14,11 @@ struct range {
     size_t length;
 };
 
+struct function;
+
 struct call {
     const char *name;
+    const struct function *function; /* NULL: the oracle's alone */
     const int64_t *numbers;
     size_t count;
     const struct range *inputs; /* behind the numbers, each as its length and its bytes */
@@ -23,14 +26,13 @@ struct call {
     int64_t room; /* of the lent output, which the oracle has no part in */
 };
 
-#define CALL(name_, ...)                                                                 \
+/* A request of plain numbers. */
+#define REQUEST(name_, function_, ...)                                                   \
     (&(const struct call){.name = (name_),                                               \
+                          .function = (function_),                                       \
                           .numbers = (const int64_t[]){__VA_ARGS__},                     \
                           .count = sizeof(int64_t[]){__VA_ARGS__} / sizeof(int64_t),     \
                           .room = NO_OUTPUT})
-
-/* Makes this call on the library: its inputs are lent ones, and so is the output, of its room. */
-typedef int64_t callee(const struct call *call, uint8_t *out);
 
 /* As the oracle's request, a line. */
 void call_request(const struct call *call, FILE *to);

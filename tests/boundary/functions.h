@@ -1,0 +1,74 @@
+/* The functions of the boundary, each with what functions.def says of it. */
+#ifndef FUNCTIONS_H
+#define FUNCTIONS_H
+
+#include <stdbool.h>
+
+#include "call.h"
+#include "hemotusap.h"
+
+enum { MOST_NUMBERS = 8, MOST_INPUTS = 2, MOST_PARAMETERS = 12, MOST_REFUSALS = 8 };
+
+/* Of a refusal that tells a place, a host gets minus (256 * number + place). */
+enum { NO_REFUSAL = 0, PLACES = 256 };
+
+enum kind { NO_PARAMETER, A_NUMBER, A_SIGNED_NUMBER, AN_INPUT, A_SUFFIX, AN_OUTPUT };
+
+struct parameter {
+    enum kind kind;
+    size_t at; /* among the call's numbers, or among its inputs */
+    int64_t low, high; /* of the numbers or bytes that are good */
+};
+
+/* From lowest to highest; divided by the unit, none leaves more than this. */
+struct answers {
+    int64_t low, high, unit, most_left;
+};
+
+/* Makes a call on the library: its inputs are lent ones, and so is the output, of its room. */
+typedef int64_t callee(const struct call *call, uint8_t *out);
+
+struct function {
+    const char *name;
+    const char *suite;
+    callee *callee;
+    struct parameter parameters[MOST_PARAMETERS + 1]; /* as C has them, up to NO_PARAMETER */
+    struct answers answers;
+    int64_t refusals[MOST_REFUSALS + 1]; /* up to NO_REFUSAL */
+};
+
+enum {
+#define FUNCTION(name, ...) FUNCTION_##name,
+#include "functions.def"
+    FUNCTIONS
+};
+
+extern const struct function functions[FUNCTIONS];
+
+/* A call of plain numbers, by its function's name. */
+#define CALL(name, ...) REQUEST(#name, &functions[FUNCTION_##name], __VA_ARGS__)
+
+/* A call on one input. */
+#define CALL_ON(name_, input)                                                              \
+    ((const struct call){.name = #name_,                                                   \
+                         .function = &functions[FUNCTION_##name_],                         \
+                         .inputs = (input),                                                \
+                         .input_count = 1,                                                 \
+                         .room = NO_OUTPUT})
+
+bool function_writes(const struct function *function);
+
+/* Which of the function's refusals a negative answer is; MOST_REFUSALS: none. */
+unsigned refusal_at(const struct function *function, int64_t answer);
+
+/* Whether the header has this answer for such a call. */
+bool may_answer(const struct call *call, int64_t answer);
+
+/* The bytes of the output that an answer says are written. */
+size_t written_by(const struct call *call, int64_t answer);
+
+/* Makes the call. The drivers have no other way to the library, so that calls that are wrong on
+   purpose can be put in its place. */
+int64_t call_library(const struct call *call, uint8_t *out);
+
+#endif
