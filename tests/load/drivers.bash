@@ -1,4 +1,4 @@
-# How the drivers of this folder are built and the fuzzer is run.
+# How the drivers of this folder, and of tests/wrong, are built and the fuzzer is run.
 
 shared=(tests/load/made.c tests/boundary/*.c tests/differential/{run,draw,lent}.c)
 options=(-std=c11 -O2 -Wall -Wextra -Werror -I include -I tests/boundary -I tests/differential -I tests/load)
@@ -22,5 +22,5 @@ fuzz() { # PROGRAM EXECUTIONS SEED FOLDER
 }
 
 build_alone() { # NAME ARCHIVE PROGRAM COMPILER...
-  "${@:4}" "${options[@]}" "tests/load/$1.c" "${shared[@]}" "$2" -pthread -o "$3"
+  "${@:4}" "${options[@]}" "tests/$1.c" "${shared[@]}" "$2" -pthread -o "$3"
 }
