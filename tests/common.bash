@@ -2,6 +2,7 @@
 # from Debian where it is missing, and the library's archive with a way to link and run programs over it.
 
 archive=target/staticlib/libhemotusap.a
+stand_ins=target/oracle
 
 fail() {
   printf '%s: %s\n' "${0##*/}" "$*" >&2
@@ -45,6 +46,18 @@ need_rust() {
   version=$(rustc --version)
   [[ $version =~ ^rustc\ 1\.([0-9]+)\. && ${BASH_REMATCH[1]} -ge 85 ]] ||
     fail "the carried Rust is of edition 2024, which needs rustc 1.85 or later; here is $version"
+}
+
+# The tools that read the counters of rustc, which have to be of its LLVM; it sets `llvm`.
+need_coverage() {
+  llvm=$(rustc --version --verbose | sed -n 's/^LLVM version: \([0-9]*\).*/\1/p')
+  need "llvm-cov-$llvm" "llvm-$llvm"
+}
+
+# The carried Rust is compiled beside the stand-ins that tests/oracle/build has made.
+compile_rust() { # PROGRAM SOURCE WORDS...
+  rustc --edition 2024 -L "$stand_ins" --extern enum_bitset="$stand_ins/libenum_bitset.so" --extern serde --extern serde_json \
+    "${@:3}" -o "$1" "$2"
 }
 
 # A program's stored test is what the Rust answers.
