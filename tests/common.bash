@@ -3,6 +3,7 @@
 
 archive=target/staticlib/libhemotusap.a
 stand_ins=target/oracle
+c_options=(-std=c11 -O2 -Wall -Wextra -Werror -Iinclude -Itests/{boundary,draws,differential,load})
 
 fail() {
   printf '%s: %s\n' "${0##*/}" "$*" >&2
@@ -100,8 +101,7 @@ prepare_machine() { # gcc|g++; it sets `compiler` and `emulator`
 
 # The differential driver, at `program`.
 build_driver() { # [FILES AND WORDS...]
-  "${compiler[@]}" -std=c11 -O2 -Wall -Wextra -Werror -I include -I tests/boundary tests/boundary/*.c tests/differential/*.c "$@" \
-    "$archive" -o "$program"
+  "${compiler[@]}" "${c_options[@]}" tests/{boundary,draws,differential}/*.c "$@" "$archive" -o "$program"
 }
 
 driver() {

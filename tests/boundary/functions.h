@@ -7,7 +7,7 @@
 #include "call.h"
 #include "hemotusap.h"
 
-enum { MOST_NUMBERS = 8, MOST_INPUTS = 2, MOST_PARAMETERS = 12, MOST_REFUSALS = 8 };
+enum { MOST_PARAMETERS = 12, MOST_INPUTS = 2, MOST_REFUSALS = 8 };
 
 /* Of a refusal that tells a place, a host gets minus (256 * number + place). */
 enum { NO_REFUSAL = 0, PLACES = 256 };

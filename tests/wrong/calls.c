@@ -39,22 +39,23 @@ static void by_a_shared_buffer(uint8_t *out, size_t length)
 }
 
 /* A byte of the output that is not to be touched, or a wrong one that is. */
-static void damage(const char *fault, int64_t got, uint8_t *out, size_t room)
+static void damage(const char *fault, const struct call *call, int64_t got, uint8_t *out)
 {
-    if (has(fault, "first_byte") && got > 0)
+    size_t room = (size_t)call->room, written = written_by(call, got);
+    if (has(fault, "first_byte") && written > 0)
         out[0] ^= 1;
-    if (has(fault, "last_byte") && got > 0)
-        out[got - 1] ^= 1;
-    if (has(fault, "behind_the_answer") && got >= 0 && (size_t)got < room)
-        out[got] ^= 1;
+    if (has(fault, "last_byte") && written > 0)
+        out[written - 1] ^= 1;
+    if (has(fault, "behind_the_answer") && got >= 0 && written < room)
+        out[written] ^= 1;
     if (has(fault, "after_a_refusal") && got < 0 && room > 0)
         out[room / 2] ^= 1;
     if (has(fault, "behind_the_room"))
         out[room] ^= 1;
     if (has(fault, "before_the_room"))
         out[-1] ^= 1;
-    if (has(fault, "by_a_shared_buffer") && got > 0 && got <= MOST_ROOM)
-        by_a_shared_buffer(out, (size_t)got);
+    if (has(fault, "by_a_shared_buffer") && written <= MOST_ROOM)
+        by_a_shared_buffer(out, written);
 }
 
 /* The call with the numbers, or the inputs, of two parameters exchanged. */
@@ -65,7 +66,7 @@ static int64_t call_swapped(const char *places, const struct call *call, uint8_t
     const struct parameter *one = &parameters[strtoul(places, &behind, 10)];
     const struct parameter *other = &parameters[strtoul(behind + 1, NULL, 10)];
     struct call swapped = *call;
-    int64_t numbers[MOST_NUMBERS];
+    int64_t numbers[MOST_PARAMETERS];
     struct range inputs[MOST_INPUTS];
     for (size_t at = 0; at < call->count; at++)
         numbers[at] = call->numbers[at];
@@ -92,7 +93,7 @@ static int64_t call_wrongly(const char *fault, const struct call *call, uint8_t 
         return call_swapped(fault + sizeof swapped - 1, call, out);
     int64_t got = __real_call_library(call, out);
     if (out != NULL)
-        damage(fault, got, out, (size_t)call->room);
+        damage(fault, call, got, out);
     if (has(fault, "one_more") || (has(fault, "now_and_then") && now))
         return got < 0 ? other_refusal(call->function, got) : got + 1;
     if (has(fault, "other_refusal") && got < 0)
