@@ -61,14 +61,13 @@ compile_rust() { # PROGRAM SOURCE WORDS...
     "${@:3}" -o "$1" "$2"
 }
 
-# A program's stored test is what the Rust answers.
-check_stored() { # CRATE
+# What a program's stored test has it print is what the Rust answers.
+check_stored() { # CRATE [WORDS OF ITS make...]
   local made=target/$1 stored=crates/$1
   tests/oracle/build
   mkdir -p "$made"
-  "tests/$1/make" target/oracle/oracle "$made"
-  cmp "$made/stdin" "$stored/stdin" && cmp "$made/stdout" "$stored/stdout" ||
-    fail "the stored test of $1 is not what tests/$1/make gives"
+  "tests/$1/make" target/oracle/oracle "${@:2}" <"$stored/stdin" >"$made/stdout"
+  cmp "$made/stdout" "$stored/stdout" || fail "the stored test of $1 is not what tests/$1/make gives"
 }
 
 # Where it stands and no crate has changed, nothing is proved for it.
