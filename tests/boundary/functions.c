@@ -30,7 +30,9 @@
 #define ANY(low, high) {low, high, 1, 0}
 #define EVEN(low, high) {low, high, 2, 0}
 #define NOTE {0, 16 * 6 + 12, 16, 12}
-#define PLACED(number) (PLACES * (number))
+#define REFUSAL(name) {HEMOTUSAP_##name, 0}
+#define PLACED(name, places) {HEMOTUSAP_##name, places}
+#define NEVER {NO_REFUSAL, 0}
 #define LIST(...) {__VA_ARGS__}
 
 const struct function functions[FUNCTIONS] = {
@@ -47,12 +49,18 @@ bool function_writes(const struct function *function)
     return false;
 }
 
+int64_t refusal_answer(const struct refusal *refusal)
+{
+    return refusal->places == 0 ? -refusal->number : -256 * refusal->number;
+}
+
 unsigned refusal_at(const struct function *function, int64_t answer)
 {
     unsigned at = 0;
-    for (; function->refusals[at] != NO_REFUSAL; at++) {
-        int64_t places = function->refusals[at] < PLACES ? 1 : PLACES;
-        if (answer / places == -(function->refusals[at] / places))
+    for (; function->refusals[at].number != NO_REFUSAL; at++) {
+        const struct refusal *refusal = &function->refusals[at];
+        int64_t first = refusal_answer(refusal);
+        if (answer == first || (answer < first && answer > first - refusal->places))
             return at;
     }
     return MOST_REFUSALS;

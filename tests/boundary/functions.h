@@ -7,10 +7,7 @@
 #include "call.h"
 #include "hemotusap.h"
 
-enum { MOST_PARAMETERS = 12, MOST_INPUTS = 2, MOST_REFUSALS = 8 };
-
-/* Of a refusal that tells a place, a host gets minus (256 * number + place). */
-enum { NO_REFUSAL = 0, PLACES = 256 };
+enum { MOST_PARAMETERS = 12, MOST_INPUTS = 2, MOST_REFUSALS = 8, NO_REFUSAL = 0 };
 
 enum kind { NO_PARAMETER, A_NUMBER, A_SIGNED_NUMBER, AN_INPUT, A_SUFFIX, AN_OUTPUT };
 
@@ -25,6 +22,12 @@ struct answers {
     int64_t low, high, unit, most_left;
 };
 
+/* A host gets minus the number, or of one that tells a place minus (256 * number + place). */
+struct refusal {
+    int64_t number;
+    int64_t places; /* 0: it tells none */
+};
+
 /* Makes a call on the library: its inputs are lent ones, and so is the output, of its room. */
 typedef int64_t callee(const struct call *call, uint8_t *out);
 
@@ -34,7 +37,7 @@ struct function {
     callee *callee;
     struct parameter parameters[MOST_PARAMETERS + 1]; /* as C has them, up to NO_PARAMETER */
     struct answers answers;
-    int64_t refusals[MOST_REFUSALS + 1]; /* up to NO_REFUSAL */
+    struct refusal refusals[MOST_REFUSALS + 1]; /* up to the number NO_REFUSAL */
 };
 
 enum {
@@ -57,6 +60,9 @@ extern const struct function functions[FUNCTIONS];
                          .room = NO_OUTPUT})
 
 bool function_writes(const struct function *function);
+
+/* What a host gets of a refusal, with the first of its places. */
+int64_t refusal_answer(const struct refusal *refusal);
 
 /* Which of the function's refusals a negative answer is; MOST_REFUSALS: none. */
 unsigned refusal_at(const struct function *function, int64_t answer);

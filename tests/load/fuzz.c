@@ -105,7 +105,7 @@ size_t LLVMFuzzerCustomMutator(uint8_t *data, size_t size, size_t most, unsigned
 
 static bool all_met(size_t function)
 {
-    for (unsigned at = 0; functions[function].refusals[at] != NO_REFUSAL; at++)
+    for (unsigned at = 0; functions[function].refusals[at].number != NO_REFUSAL; at++)
         if (refused[function][at] == 0)
             return false;
     return answered[function] > 0;

@@ -16,16 +16,23 @@ static bool has(const char *fault, const char *name)
     return strcmp(fault, name) == 0;
 }
 
-/* A refusal of the table that is not this answer, of the function's own if it has two. */
+/* The first refusal of a function that is not this answer; or the answer. */
+static int64_t refusal_beside(const struct function *function, int64_t got)
+{
+    const struct refusal *at = function->refusals;
+    for (; at->number != NO_REFUSAL; at++)
+        if (refusal_answer(at) != got)
+            return refusal_answer(at);
+    return got;
+}
+
+/* Of the function's own if it has two, or of the next in the table. */
 static int64_t other_refusal(const struct function *function, int64_t got)
 {
-    for (const int64_t *own = function->refusals; *own != NO_REFUSAL; own++)
-        if (-*own != got)
-            return -*own;
-    for (unsigned at = 0; at < FUNCTIONS; at++)
-        if (functions[at].refusals[0] != NO_REFUSAL && -functions[at].refusals[0] != got)
-            return -functions[at].refusals[0];
-    return got;
+    int64_t other = refusal_beside(function, got);
+    for (unsigned at = 0; other == got && at < FUNCTIONS; at++)
+        other = refusal_beside(&functions[at], got);
+    return other;
 }
 
 /* Long enough there for another thread to come by. */

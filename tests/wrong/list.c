@@ -42,7 +42,7 @@ int main(void)
     for (unsigned at = 0; at < FUNCTIONS; at++) {
         const struct function *function = &functions[at];
         list(function, answers, LENGTH(answers), function->suite);
-        if (function->refusals[0] != NO_REFUSAL)
+        if (function->refusals[0].number != NO_REFUSAL)
             printf("%s other_refusal %s\n", function->name, function->suite);
         list_swapped(function);
         if (!function_writes(function))
