@@ -53,11 +53,11 @@ extern const struct function functions[FUNCTIONS];
 
 /* A call on one input. */
 #define CALL_ON(name_, input)                                                              \
-    ((const struct call){.name = #name_,                                                   \
-                         .function = &functions[FUNCTION_##name_],                         \
-                         .inputs = (input),                                                \
-                         .input_count = 1,                                                 \
-                         .room = NO_OUTPUT})
+    (&(const struct call){.name = #name_,                                                  \
+                          .function = &functions[FUNCTION_##name_],                        \
+                          .inputs = (input),                                               \
+                          .input_count = 1,                                                \
+                          .room = NO_OUTPUT})
 
 bool function_writes(const struct function *function);
 

@@ -15,39 +15,31 @@ enum { SETS = 4096, ALL_CLASSES = SETS - 1, EVERY_ROOM = 431, MOST_ROOM = 1024 }
 
 static void in_every_room(struct run *run, const struct range *list, const struct lines *want)
 {
-    const struct call call = CALL_ON(candidates, list);
-    expect_written(run, &call, want->text, want->length);
+    expect_written(run, CALL_ON(candidates, list), want->text, want->length);
 }
 
 /* The exact room, its neighbours, a drawn one that is too small or just enough, and any. */
 static void in_some_rooms(struct run *run, const struct range *list, const struct lines *want,
                           uint64_t state)
 {
-    const struct call call = CALL_ON(candidates, list);
+    const struct call *call = CALL_ON(candidates, list);
     uint32_t length = (uint32_t)want->length;
     const uint32_t rooms[] = {length, length + 1, length == 0 ? 0 : length - 1,
                               draw_below(&state, length + 1), draw_below(&state, MOST_ROOM)};
     for (unsigned at = 0; at < LENGTH(rooms); at++)
-        expect_written_in(run, &call, want->text, want->length, rooms[at]);
-}
-
-static void expect_count(struct run *run, const struct range *list, int64_t want)
-{
-    const struct call call = CALL_ON(candidate_count, list);
-    expect_number(run, &call, want);
+        expect_written_in(run, call, want->text, want->length, rooms[at]);
 }
 
 static void one_list(struct run *run, struct range list, bool every_room, uint64_t state)
 {
-    const struct call call = CALL_ON(candidates, &list);
-    const char *answer = oracle_answer(run, &call);
+    const char *answer = oracle_answer(run, CALL_ON(candidates, &list));
     if (answer == NULL)
         return;
     struct lines want = lines_in(answer);
     if (every_room)
         in_every_room(run, &list, &want);
     in_some_rooms(run, &list, &want, state);
-    expect_count(run, &list, want.count);
+    expect_number(run, CALL_ON(candidate_count, &list), want.count);
 }
 
 static void set_with_first(struct run *run, uint32_t set, unsigned first)
@@ -105,7 +97,7 @@ static void the_papers_list(struct run *run)
     struct lines want = {.count = 3, .length = sizeof text - 1};
     memcpy(want.text, text, want.length);
     in_every_room(run, &list, &want);
-    expect_count(run, &list, want.count);
+    expect_number(run, CALL_ON(candidate_count, &list), want.count);
 }
 
 const struct suite candidates_suite = {"candidates", every_list, the_papers_list};

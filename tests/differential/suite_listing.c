@@ -15,8 +15,7 @@ static const char alphabet[] = "#()+,135679Mabdimostu"; /* of all suffixes */
 
 static void in_room(struct run *run, struct range text, const struct suffix *want, size_t room)
 {
-    const struct call call = CALL_ON(listing, &text);
-    expect_written_in(run, &call, want->sets, want->listed, room);
+    expect_written_in(run, CALL_ON(listing, &text), want->sets, want->listed, room);
 }
 
 /* Mostly no suffix, so that the exact room is none; in one beyond it, a byte written would show. */
@@ -44,7 +43,7 @@ static void every_suffix(struct run *run)
 static void mark_sets(struct run *run, struct range text, bool seen[SETS])
 {
     uint8_t sets[2 * MOST_SETS];
-    struct call call = CALL_ON(listing, &text);
+    struct call call = *CALL_ON(listing, &text);
     call.room = sizeof sets;
     int64_t length = call_library(&call, sets);
     if (length < 0 || length % 2 != 0 || length > (int64_t)sizeof sets)
@@ -166,9 +165,8 @@ static void stated_lists(struct run *run)
 {
     static const uint8_t sets[] = {5, 17, 5, 145, 13, 17, 13, 145}, major[] = {0, 145};
     const struct range text = {(const uint8_t *)"7(b13)", 6}, empty = {NULL, 0};
-    const struct call call = CALL_ON(listing, &text), of_empty = CALL_ON(listing, &empty);
-    expect_written(run, &call, sets, sizeof sets);
-    expect_written(run, &of_empty, major, sizeof major);
+    expect_written(run, CALL_ON(listing, &text), sets, sizeof sets);
+    expect_written(run, CALL_ON(listing, &empty), major, sizeof major);
 }
 
 const struct suite listing_suite = {"listing", every_text, stated_lists};
