@@ -22,11 +22,11 @@
 #undef OUTPUT
 
 /* ..then as what is known of them. */
-#define NUMBER(at, ...) {A_NUMBER, at, __VA_ARGS__}
-#define SIGNED(at, ...) {A_SIGNED_NUMBER, at, __VA_ARGS__}
-#define INPUT(at, highest) {AN_INPUT, at, 0, highest}
-#define SUFFIX(at) {A_SUFFIX, at, 0, 255}
-#define OUTPUT {AN_OUTPUT, 0, 0, 255}
+#define NUMBER(at, ...) {A_NUMBER, at, __VA_ARGS__, false}
+#define SIGNED(at, ...) {A_SIGNED_NUMBER, at, __VA_ARGS__, false}
+#define INPUT(at, highest) {AN_INPUT, at, 0, highest, false}
+#define SUFFIX(at) {AN_INPUT, at, 0, 255, true}
+#define OUTPUT {AN_OUTPUT, 0, 0, 255, false}
 #define ANY(low, high) {low, high, 1, 0}
 #define EVEN(low, high) {low, high, 2, 0}
 #define NOTE {0, 16 * 6 + 12, 16, 12}

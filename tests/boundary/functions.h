@@ -9,12 +9,14 @@
 
 enum { MOST_PARAMETERS = 12, MOST_INPUTS = 2, MOST_REFUSALS = 8, NO_REFUSAL = 0 };
 
-enum kind { NO_PARAMETER, A_NUMBER, A_SIGNED_NUMBER, AN_INPUT, A_SUFFIX, AN_OUTPUT };
+/* Its type in C. */
+enum kind { NO_PARAMETER, A_NUMBER, A_SIGNED_NUMBER, AN_INPUT, AN_OUTPUT };
 
 struct parameter {
     enum kind kind;
-    size_t at; /* among the call's numbers, or among its inputs */
+    size_t at;         /* among the call's numbers, or among its inputs */
     int64_t low, high; /* of the numbers or bytes that are good */
+    bool is_suffix;    /* or any text, so that a drawn one had better be made */
 };
 
 /* From lowest to highest; divided by the unit, none leaves more than this. */

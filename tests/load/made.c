@@ -62,7 +62,7 @@ static size_t take_bytes(struct source *from, int64_t highest, uint8_t *bytes)
 
 static struct range take_input(struct source *from, const struct parameter *input, uint8_t *bytes)
 {
-    bool suffix = input->kind == A_SUFFIX && take(from, 1) % 2 == 0;
+    bool suffix = input->is_suffix && take(from, 1) % 2 == 0;
     size_t length = suffix ? take_suffix(from, bytes) : take_bytes(from, input->high, bytes);
     return (struct range){bytes, length};
 }
@@ -81,7 +81,7 @@ static void take_inputs(struct source *from, struct made *made)
 {
     const struct parameter *at = made->call.function->parameters;
     for (; at->kind != NO_PARAMETER; at++)
-        if (at->kind == AN_INPUT || at->kind == A_SUFFIX) {
+        if (at->kind == AN_INPUT) {
             made->inputs[at->at] = take_input(from, at, made->bytes[at->at]);
             made->call.input_count++;
         }

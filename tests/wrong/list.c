@@ -1,22 +1,35 @@
 /* Lists the wrong calls, a line each: the function, its fault, and who has to find it, which is the
    function's suite, the fuzzer or the threads. */
-#include <stdio.h>
-
 #include "functions.h"
 #include "length.h"
 
-/* Of every function, of those that write, and of those that the fuzzer sees, without an oracle. */
-static const char *const answers[] = {"one_more", "refuses_always", "now_and_then"};
-static const char *const outputs[] = {"first_byte",      "last_byte",       "behind_the_answer",
-                                      "after_a_refusal", "behind_the_room", "before_the_room"};
-static const char *const seen[] = {"behind_the_answer", "after_a_refusal", "behind_the_room",
-                                   "before_the_room", "now_and_then"};
+static const struct fault {
+    const char *name;
+    bool of_refusals; /* of functions that refuse, */
+    bool of_outputs;  /* and of those that write */
+    bool is_seen;     /* by the fuzzer, which has no oracle */
+} faults[] = {
+    {"one_more", false, false, false},
+    {"refuses_always", false, false, false},
+    {"now_and_then", false, false, true},
+    {"other_refusal", true, false, false},
+    {"first_byte", false, true, false},
+    {"last_byte", false, true, false},
+    {"behind_the_answer", false, true, true},
+    {"behind_the_room", false, true, true},
+    {"before_the_room", false, true, true},
+    {"after_a_refusal", true, true, true},
+};
 
-static void list(const struct function *function, const char *const *faults, unsigned count,
-                 const char *finder)
+static void list(const struct function *function, const struct fault *fault)
 {
-    for (unsigned at = 0; at < count; at++)
-        printf("%s %s %s\n", function->name, faults[at], finder);
+    if (fault->of_refusals && function->refusals[0].number == NO_REFUSAL)
+        return;
+    if (fault->of_outputs && !function_writes(function))
+        return;
+    printf("%s %s %s\n", function->name, fault->name, function->suite);
+    if (fault->is_seen)
+        printf("%s %s fuzzer\n", function->name, fault->name);
 }
 
 /* The note and `to` count alike in a transposition, note + to - from: no answer of the whole domain
@@ -39,17 +52,11 @@ static void list_swapped(const struct function *function)
 
 int main(void)
 {
-    for (unsigned at = 0; at < FUNCTIONS; at++) {
-        const struct function *function = &functions[at];
-        list(function, answers, LENGTH(answers), function->suite);
-        if (function->refusals[0].number != NO_REFUSAL)
-            printf("%s other_refusal %s\n", function->name, function->suite);
-        list_swapped(function);
-        if (!function_writes(function))
-            continue;
-        list(function, outputs, LENGTH(outputs), function->suite);
-        list(function, seen, LENGTH(seen), "fuzzer");
+    for (unsigned function = 0; function < FUNCTIONS; function++) {
+        for (unsigned fault = 0; fault < LENGTH(faults); fault++)
+            list(&functions[function], &faults[fault]);
+        list_swapped(&functions[function]);
     }
-    puts("suffix by_a_shared_buffer threads");
+    printf("%s by_a_shared_buffer threads\n", functions[FUNCTION_suffix].name);
     return 0;
 }
