@@ -2,7 +2,6 @@
 # from Debian where it is missing, and the library's archive with a way to link and run programs over it.
 
 archive=target/staticlib/libhemotusap.a
-stand_ins=target/oracle
 c_options=(-std=c11 -O2 -Wall -Wextra -Werror -Iinclude -Itests/{boundary,draws,differential,load})
 
 fail() {
@@ -53,12 +52,6 @@ need_rust() {
 need_coverage() {
   llvm=$(rustc --version --verbose | sed -n 's/^LLVM version: \([0-9]*\).*/\1/p')
   need "llvm-cov-$llvm" "llvm-$llvm"
-}
-
-# The carried Rust is compiled beside the stand-ins that tests/oracle/build has made.
-compile_rust() { # PROGRAM SOURCE WORDS...
-  rustc --edition 2024 -L "$stand_ins" --extern enum_bitset="$stand_ins/libenum_bitset.so" --extern serde --extern serde_json \
-    "${@:3}" -o "$1" "$2"
 }
 
 # What a program's stored test has it print is what the Rust answers.
