@@ -5,6 +5,7 @@
 own=$(uname -m)-linux
 targets=(x86_64-linux)
 if [ "$own" != x86_64-linux ]; then targets+=("$own"); fi
+c_options=(-std=c11 -O2 -Wall -Wextra -Werror -Iinclude -Itests/{boundary,draws,differential,load})
 
 fail() {
   printf '%s: %s\n' "${0##*/}" "$*" >&2
@@ -50,14 +51,19 @@ need_rust() {
     fail "the carried Rust is of edition 2024, which needs rustc 1.85 or later; here is $version"
 }
 
-# A program's stored test is what the Rust answers.
-check_stored() { # CRATE
+# The tools that read the counters of rustc, which have to be of its LLVM; it sets `llvm`.
+need_coverage() {
+  llvm=$(rustc --version --verbose | sed -n 's/^LLVM version: \([0-9]*\).*/\1/p')
+  need "llvm-cov-$llvm" "llvm-$llvm"
+}
+
+# What a program's stored test has it print is what the Rust answers.
+check_stored() { # CRATE [WORDS OF ITS make...]
   local made=target/$1 stored=crates/$1
   tests/oracle/build
   mkdir -p "$made"
-  "tests/$1/make" target/oracle/oracle "$made"
-  cmp "$made/stdin" "$stored/stdin" && cmp "$made/stdout" "$stored/stdout" ||
-    fail "the stored test of $1 is not what tests/$1/make gives"
+  "tests/$1/make" target/oracle/oracle "${@:2}" <"$stored/stdin" >"$made/stdout"
+  cmp "$made/stdout" "$stored/stdout" || fail "the stored test of $1 is not what tests/$1/make gives"
 }
 
 # Where it stands and no crate has changed, nothing is proved for it.
@@ -88,7 +94,7 @@ prepare_machine() { # TARGET; it sets `compiler` and `emulator`
 
 # The differential driver, at `program`.
 build_driver() { # [FILES AND WORDS...]
-  "${compiler[@]}" -std=c11 -O2 -Wall -Wextra -Werror -I include tests/differential/*.c "$@" "$archive" -o "$program"
+  "${compiler[@]}" "${c_options[@]}" tests/{boundary,draws,differential}/*.c "$@" "$archive" -o "$program"
 }
 
 driver() {

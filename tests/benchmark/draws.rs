@@ -1,18 +1,15 @@
-//! Numbers and lists of MIDI codes drawn by SplitMix64, the same in each run.
+//! Numbers and lists of MIDI codes, drawn by the tests' one generator, the same in each run.
+
+// Of tests/draws/draw.c.
+unsafe extern "C" {
+    safe fn draw_below(state: &mut u64, limit: u32) -> u32;
+}
 
 pub struct Draws(pub u64);
 
 impl Draws {
-    fn next(&mut self) -> u64 {
-        self.0 = self.0.wrapping_add(0x9E37_79B9_7F4A_7C15);
-        let mut drawn = self.0;
-        drawn = (drawn ^ drawn >> 30).wrapping_mul(0xBF58_476D_1CE4_E5B9);
-        drawn = (drawn ^ drawn >> 27).wrapping_mul(0x94D0_49BB_1331_11EB);
-        drawn ^ drawn >> 31
-    }
-
     pub fn below(&mut self, limit: usize) -> usize {
-        (self.next() % limit as u64) as usize
+        draw_below(&mut self.0, limit as u32) as usize
     }
 
     /// Codes of MIDI 1.0, which stops at 127.

@@ -30,7 +30,7 @@ static void watch_faults(void)
         fail("faults cannot be watched");
 }
 
-bool called_without_fault(callee *callee, const struct call *call, uint8_t *out, int64_t *got)
+bool called_without_fault(const struct call *call, uint8_t *out, int64_t *got)
 {
     watch_faults();
     if (sigsetjmp(before_call, 0) != 0) {
@@ -38,7 +38,7 @@ bool called_without_fault(callee *callee, const struct call *call, uint8_t *out,
         return false;
     }
     in_call = 1;
-    *got = callee(call, out);
+    *got = call_library(call, out);
     in_call = 0;
     return true;
 }

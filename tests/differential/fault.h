@@ -4,9 +4,9 @@
 
 #include <stdbool.h>
 
-#include "call.h"
+#include "functions.h"
 
 /* Makes the call; false when it faulted, and then there is no answer in `got`. */
-bool called_without_fault(callee *callee, const struct call *call, uint8_t *out, int64_t *got);
+bool called_without_fault(const struct call *call, uint8_t *out, int64_t *got);
 
 #endif

@@ -2,8 +2,6 @@
 
 #include "fault.h"
 
-enum { MOST_INPUTS = 2 };
-
 static struct lent inputs[MOST_INPUTS];
 static struct lent output;
 
@@ -45,8 +43,8 @@ void expect_output(struct run *run, const struct call *call, const uint8_t *want
     expect_range(run, call, "output", &output, want, length);
 }
 
-bool call_lent(struct run *run, const struct call *call, callee *callee, enum place place,
-               const uint8_t *old, int64_t *got)
+bool call_lent(struct run *run, const struct call *call, enum place place, const uint8_t *old,
+               int64_t *got)
 {
     struct range lent[MOST_INPUTS];
     struct call with_lent = *call;
@@ -55,7 +53,7 @@ bool call_lent(struct run *run, const struct call *call, callee *callee, enum pl
     uint8_t *out = NULL;
     if (call->room != NO_OUTPUT)
         out = lend_in(&output, place, old, (size_t)call->room);
-    if (!called_without_fault(callee, &with_lent, out, got)) {
+    if (!called_without_fault(&with_lent, out, got)) {
         mismatch(run, call, "touched memory that it was not lent");
         return false;
     }

@@ -9,8 +9,8 @@ enum { MOST_LENT = 1 << 17 }; /* bytes of one range */
 
 /* Makes the call with its ranges in this place, the output holding `old`, and tells when it
    alters an input; false, and told, when it faulted. */
-bool call_lent(struct run *run, const struct call *call, callee *callee, enum place place,
-               const uint8_t *old, int64_t *got);
+bool call_lent(struct run *run, const struct call *call, enum place place, const uint8_t *old,
+               int64_t *got);
 
 /* The output last lent, where it stands. */
 const uint8_t *lent_output(void);

@@ -58,7 +58,7 @@ void mismatch(struct run *run, const struct call *call, const char *format, ...)
         fail("%s: stopped at %d mismatches", run->suite, MOST_MISMATCHES);
 }
 
-static void expect_number(struct run *run, const struct call *call, int64_t got, int64_t want)
+static void compare(struct run *run, const struct call *call, int64_t got, int64_t want)
 {
     if (got != want)
         mismatch(run, call, "answered %" PRId64 ", expected %" PRId64, got, want);
@@ -67,14 +67,13 @@ static void expect_number(struct run *run, const struct call *call, int64_t got,
 void expect_answer(struct run *run, const struct call *call, int64_t got, int64_t want)
 {
     run->answers++;
-    expect_number(run, call, got, want);
+    compare(run, call, got, want);
 }
 
-void expect_refusal(struct run *run, const struct call *call, int64_t got,
-                    enum hemotusap_refusal want)
+void expect_refusal(struct run *run, const struct call *call, int64_t got, int64_t want)
 {
     run->refusals++;
-    expect_number(run, call, got, -(int64_t)want);
+    compare(run, call, got, -want);
 }
 
 int run_end(struct run *run, int oracle_asked)

@@ -2,8 +2,7 @@
 #ifndef RUN_H
 #define RUN_H
 
-#include "call.h"
-#include "hemotusap.h"
+#include "functions.h"
 
 enum mode { REQUESTING, CHECKING };
 
@@ -26,8 +25,7 @@ _Noreturn void fail(const char *format, ...);
 const char *oracle_answer(struct run *run, const struct call *call);
 
 void expect_answer(struct run *run, const struct call *call, int64_t got, int64_t want);
-void expect_refusal(struct run *run, const struct call *call, int64_t got,
-                    enum hemotusap_refusal want);
+void expect_refusal(struct run *run, const struct call *call, int64_t got, int64_t want);
 
 /* Tells of a call that went wrong; the tenth ends the run. */
 void mismatch(struct run *run, const struct call *call, const char *format, ...);

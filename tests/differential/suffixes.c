@@ -45,7 +45,7 @@ bool suffixes_ask(struct run *run)
 {
     count = 0;
     for (uint32_t set = 1; set < SETS; set += 2) {
-        const char *answer = oracle_answer(run, CALL("suffix", set));
+        const char *answer = oracle_answer(run, CALL(suffix, set));
         if (answer == NULL)
             continue;
         struct suffix one = suffix_in(answer, set);

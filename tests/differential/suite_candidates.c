@@ -4,7 +4,6 @@
 #include <string.h>
 
 #include "draw.h"
-#include "hemotusap.h"
 #include "length.h"
 #include "lists.h"
 #include "oracle_lines.h"
@@ -14,59 +13,33 @@
 /* Of the sets' lists one in EVERY_ROOM is tried in every room, and those of all classes. */
 enum { SETS = 4096, ALL_CLASSES = SETS - 1, EVERY_ROOM = 431, MOST_ROOM = 1024 };
 
-static int64_t write_candidates(const struct call *call, uint8_t *out)
-{
-    struct range list = call->inputs[0];
-    return hemotusap_candidates(list.bytes, list.length, out, (size_t)call->room);
-}
-
-static int64_t count_candidates(const struct call *call, uint8_t *out)
-{
-    (void)out;
-    struct range list = call->inputs[0];
-    return hemotusap_candidate_count(list.bytes, list.length);
-}
-
-static struct call call_on(const char *name, const struct range *list)
-{
-    return (struct call){.name = name, .inputs = list, .input_count = 1, .room = NO_OUTPUT};
-}
-
 static void in_every_room(struct run *run, const struct range *list, const struct lines *want)
 {
-    const struct call call = call_on("candidates", list);
-    expect_written(run, &call, write_candidates, want->text, want->length);
+    expect_written(run, CALL_ON(candidates, list), want->text, want->length);
 }
 
 /* The exact room, its neighbours, a drawn one that is too small or just enough, and any. */
 static void in_some_rooms(struct run *run, const struct range *list, const struct lines *want,
                           uint64_t state)
 {
-    const struct call call = call_on("candidates", list);
+    const struct call *call = CALL_ON(candidates, list);
     uint32_t length = (uint32_t)want->length;
     const uint32_t rooms[] = {length, length + 1, length == 0 ? 0 : length - 1,
                               draw_below(&state, length + 1), draw_below(&state, MOST_ROOM)};
     for (unsigned at = 0; at < LENGTH(rooms); at++)
-        expect_written_in(run, &call, write_candidates, want->text, want->length, rooms[at]);
-}
-
-static void expect_count(struct run *run, const struct range *list, int64_t want)
-{
-    const struct call call = call_on("candidate_count", list);
-    expect_read(run, &call, count_candidates, want);
+        expect_written_in(run, call, want->text, want->length, rooms[at]);
 }
 
 static void one_list(struct run *run, struct range list, bool every_room, uint64_t state)
 {
-    const struct call call = call_on("candidates", &list);
-    const char *answer = oracle_answer(run, &call);
+    const char *answer = oracle_answer(run, CALL_ON(candidates, &list));
     if (answer == NULL)
         return;
     struct lines want = lines_in(answer);
     if (every_room)
         in_every_room(run, &list, &want);
     in_some_rooms(run, &list, &want, state);
-    expect_count(run, &list, want.count);
+    expect_number(run, CALL_ON(candidate_count, &list), want.count);
 }
 
 static void set_with_first(struct run *run, uint32_t set, unsigned first)
@@ -124,7 +97,7 @@ static void the_papers_list(struct run *run)
     struct lines want = {.count = 3, .length = sizeof text - 1};
     memcpy(want.text, text, want.length);
     in_every_room(run, &list, &want);
-    expect_count(run, &list, want.count);
+    expect_number(run, CALL_ON(candidate_count, &list), want.count);
 }
 
 const struct suite candidates_suite = {"candidates", every_list, the_papers_list};

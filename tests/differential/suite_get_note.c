@@ -1,9 +1,9 @@
 /* get_note: the whole domain by the oracle; around it refusals, the note's before the move's. */
-#include "hemotusap.h"
 #include "length.h"
 #include "notes.h"
 #include "oracle_lines.h"
 #include "suite.h"
+#include "written.h"
 
 enum { MOST_SEMITONES = 24, MOST_DEGREE = 14 };
 
@@ -15,11 +15,10 @@ static const uint32_t degrees_outside[] = {0,   15,  16,  17,  18,  19,  20,
 
 static void one_move(struct run *run, struct note from, uint32_t semitones, uint32_t degree)
 {
-    const struct call *call = CALL("get_note", from.letter, from.count, semitones, degree);
+    const struct call *call = CALL(get_note, from.letter, from.count, semitones, degree);
     const char *answer = oracle_answer(run, call);
     if (answer != NULL)
-        expect_answer(run, call, hemotusap_get_note(from.letter, from.count, semitones, degree),
-                      note_in(answer));
+        expect_number(run, call, note_in(answer));
 }
 
 static void every_move(struct run *run)
@@ -36,8 +35,7 @@ static void tried_move(struct run *run, struct note from, uint32_t semitones, ui
     bool move_bad = semitones > MOST_SEMITONES || degree == 0 || degree > MOST_DEGREE;
     if (is_note(from) && !move_bad)
         return;
-    expect_refusal(run, CALL("get_note", from.letter, from.count, semitones, degree),
-                   hemotusap_get_note(from.letter, from.count, semitones, degree),
+    expect_refused(run, CALL(get_note, from.letter, from.count, semitones, degree),
                    is_note(from) ? HEMOTUSAP_BAD_MOVE : HEMOTUSAP_BAD_NOTE);
 }
 

@@ -4,7 +4,6 @@
 #include <string.h>
 
 #include "draw.h"
-#include "hemotusap.h"
 #include "length.h"
 #include "suffixes.h"
 #include "suite.h"
@@ -14,21 +13,9 @@ enum { SUFFIXES = 1171, LONGEST_TEXT = 65537, LONGEST_DRAWN = 80, DRAWN_PART = 1
 
 static const char alphabet[] = "#()+,135679Mabdimostu"; /* of all suffixes */
 
-static int64_t write_listing(const struct call *call, uint8_t *out)
-{
-    struct range text = call->inputs[0];
-    return hemotusap_listing(text.bytes, text.length, out, (size_t)call->room);
-}
-
-static struct call call_on(const struct range *text)
-{
-    return (struct call){.name = "listing", .inputs = text, .input_count = 1, .room = NO_OUTPUT};
-}
-
 static void in_room(struct run *run, struct range text, const struct suffix *want, size_t room)
 {
-    const struct call call = call_on(&text);
-    expect_written_in(run, &call, write_listing, want->sets, want->listed, room);
+    expect_written_in(run, CALL_ON(listing, &text), want->sets, want->listed, room);
 }
 
 /* Mostly no suffix, so that the exact room is none; in one beyond it, a byte written would show. */
@@ -56,8 +43,9 @@ static void every_suffix(struct run *run)
 static void mark_sets(struct run *run, struct range text, bool seen[SETS])
 {
     uint8_t sets[2 * MOST_SETS];
-    const struct call call = call_on(&text);
-    int64_t length = hemotusap_listing(text.bytes, text.length, sets, sizeof sets);
+    struct call call = *CALL_ON(listing, &text);
+    call.room = sizeof sets;
+    int64_t length = call_library(&call, sets);
     if (length < 0 || length % 2 != 0 || length > (int64_t)sizeof sets)
         mismatch(run, &call, "answered %d", (int)length);
     for (int64_t at = 0; at + 1 < length; at += 2) {
@@ -75,7 +63,7 @@ static void each_set_once(struct run *run)
     for (unsigned at = 0; at < suffix_count(); at++)
         mark_sets(run, (struct range){suffix_at(at)->text, suffix_at(at)->length}, seen);
     for (uint32_t set = 1; set < SETS; set += 2)
-        expect_answer(run, CALL("listing of any suffix holds", set), seen[set], true);
+        expect_answer(run, REQUEST("listing of any suffix holds", NULL, set), seen[set], true);
 }
 
 static uint8_t drawn_sign(uint64_t *state)
@@ -177,9 +165,8 @@ static void stated_lists(struct run *run)
 {
     static const uint8_t sets[] = {5, 17, 5, 145, 13, 17, 13, 145}, major[] = {0, 145};
     const struct range text = {(const uint8_t *)"7(b13)", 6}, empty = {NULL, 0};
-    const struct call call = call_on(&text), of_empty = call_on(&empty);
-    expect_written(run, &call, write_listing, sets, sizeof sets);
-    expect_written(run, &of_empty, write_listing, major, sizeof major);
+    expect_written(run, CALL_ON(listing, &text), sets, sizeof sets);
+    expect_written(run, CALL_ON(listing, &empty), major, sizeof major);
 }
 
 const struct suite listing_suite = {"listing", every_text, stated_lists};

@@ -1,18 +1,11 @@
 /* note_text: every note in every room; bad notes are refused before the room is looked at. */
 #include <stdlib.h>
 
-#include "hemotusap.h"
 #include "notes.h"
 #include "suite.h"
 #include "written.h"
 
 enum { LONGEST = HEMOTUSAP_NOTE_TEXT_ROOM }; /* a letter and six accidentals */
-
-static int64_t write_note(const struct call *call, uint8_t *out)
-{
-    return hemotusap_note_text((uint32_t)call->numbers[0], (int32_t)call->numbers[1], out,
-                               (size_t)call->room);
-}
 
 /* Paper 01, "Notes": the letter, then # or b once per count. */
 static size_t text_of(struct note note, uint8_t text[LONGEST])
@@ -29,12 +22,12 @@ static void every_text(struct run *run)
 {
     for (unsigned at = 0; at < tried_notes(); at++) {
         struct note note = tried_note_at(at);
-        const struct call *call = CALL("note_text", note.letter, note.count);
+        const struct call *call = CALL(note_text, note.letter, note.count);
         uint8_t text[LONGEST];
         if (is_note(note))
-            expect_written(run, call, write_note, text, text_of(note, text));
+            expect_written(run, call, text, text_of(note, text));
         else
-            expect_unwritten(run, call, write_note, HEMOTUSAP_BAD_NOTE, LONGEST + 1);
+            expect_unwritten(run, call, HEMOTUSAP_BAD_NOTE, LONGEST + 1);
     }
 }
 

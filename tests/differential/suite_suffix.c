@@ -2,7 +2,6 @@
    looked at. */
 #include <string.h>
 
-#include "hemotusap.h"
 #include "length.h"
 #include "numbers_above.h"
 #include "suite.h"
@@ -13,25 +12,20 @@ enum { SETS = 4096, LONGEST = 64 };
 /* None, too little for most answers, enough for each: refusal 1 comes before 7 in all. */
 static const size_t rooms[] = {0, 1, LONGEST};
 
-static int64_t write_suffix(const struct call *call, uint8_t *out)
-{
-    return hemotusap_suffix((uint32_t)call->numbers[0], out, (size_t)call->room);
-}
-
 static void every_rooted_set(struct run *run)
 {
     for (uint32_t set = 1; set < SETS; set += 2) {
-        const struct call *call = CALL("suffix", set);
+        const struct call *call = CALL(suffix, set);
         const char *answer = oracle_answer(run, call);
         if (answer != NULL)
-            expect_written(run, call, write_suffix, (const uint8_t *)answer, strlen(answer));
+            expect_written(run, call, (const uint8_t *)answer, strlen(answer));
     }
 }
 
 static void refused(struct run *run, int64_t set)
 {
     for (unsigned at = 0; at < LENGTH(rooms); at++)
-        expect_unwritten_in(run, CALL("suffix", set), write_suffix, HEMOTUSAP_NOT_A_SET, rooms[at]);
+        expect_unwritten_in(run, CALL(suffix, set), HEMOTUSAP_NOT_A_SET, rooms[at]);
 }
 
 static void sets_refused(struct run *run)

@@ -3,7 +3,6 @@
 #include <string.h>
 
 #include "draw.h"
-#include "hemotusap.h"
 #include "length.h"
 #include "numbers_above.h"
 #include "suite.h"
@@ -11,12 +10,6 @@
 
 /* Of the pairs one in EVERY_ROOM is tried in every room, and those of all classes. */
 enum { ROOTS = 12, SETS = 4096, EVERY_ROOM = 61, LONGEST = HEMOTUSAP_TONES_ROOM };
-
-static int64_t write_tones(const struct call *call, uint8_t *out)
-{
-    return hemotusap_tones((uint32_t)call->numbers[0], (uint32_t)call->numbers[1], out,
-                           (size_t)call->room);
-}
 
 /* The exact room, one less, and a drawn one. */
 static void in_some_rooms(struct run *run, const struct call *call, const char *answer,
@@ -27,19 +20,19 @@ static void in_some_rooms(struct run *run, const struct call *call, const char *
     if (length == 0 || length > LONGEST)
         fail("the oracle's line `%s` is of no length that tones have", answer);
     for (unsigned at = 0; at < LENGTH(rooms); at++)
-        expect_written_in(run, call, write_tones, (const uint8_t *)answer, length, rooms[at]);
+        expect_written_in(run, call, (const uint8_t *)answer, length, rooms[at]);
 }
 
 static void one_pair(struct run *run, uint32_t root, uint32_t set)
 {
     uint32_t number = root * SETS + set;
-    const struct call *call = CALL("tones", root, set);
+    const struct call *call = CALL(tones, root, set);
     const char *answer = oracle_answer(run, call);
     if (answer == NULL)
         return;
     in_some_rooms(run, call, answer, draws_of(run->seed, number));
     if (number % EVERY_ROOM == 0 || set == SETS - 1)
-        expect_written(run, call, write_tones, (const uint8_t *)answer, strlen(answer));
+        expect_written(run, call, (const uint8_t *)answer, strlen(answer));
 }
 
 static void every_pair(struct run *run)
@@ -49,11 +42,11 @@ static void every_pair(struct run *run)
             one_pair(run, root, set);
 }
 
-static void refused(struct run *run, int64_t root, int64_t set, enum hemotusap_refusal want)
+static void refused(struct run *run, int64_t root, int64_t set, int64_t refusal)
 {
     static const size_t rooms[] = {0, 1, LONGEST};
     for (unsigned at = 0; at < LENGTH(rooms); at++)
-        expect_unwritten_in(run, CALL("tones", root, set), write_tones, want, rooms[at]);
+        expect_unwritten_in(run, CALL(tones, root, set), refusal, rooms[at]);
 }
 
 /* A root that is bad too changes nothing. */
@@ -73,8 +66,7 @@ static void refuse_root(struct run *run, int64_t root)
 
 static void stated_text(struct run *run, int64_t root, int64_t set, const char *text)
 {
-    expect_written(run, CALL("tones", root, set), write_tones, (const uint8_t *)text,
-                   strlen(text));
+    expect_written(run, CALL(tones, root, set), (const uint8_t *)text, strlen(text));
 }
 
 static void stated_tones(struct run *run)

@@ -63,7 +63,7 @@ static struct range counted(struct range *left)
 static void one_set(struct run *run, int64_t root, int64_t bass, int64_t lead, int64_t set,
                     uint64_t state)
 {
-    const char *answer = oracle_answer(run, CALL("set_voicing", root, bass, lead, set));
+    const char *answer = oracle_answer(run, REQUEST("set_voicing", NULL, root, bass, lead, set));
     if (answer == NULL)
         return;
     struct bytes line = bytes_in(answer);

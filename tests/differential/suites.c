@@ -1,35 +1,37 @@
-/* The table of suites: a new one is a file suite_NAME.c and its name here. */
+/* The suites, each a file suite_NAME.c, as the boundary's rows name them. */
+#include <stdbool.h>
 #include <string.h>
 
-#include "length.h"
 #include "suite.h"
 
-extern const struct suite quality_suite, get_note_suite, transpose_suite, note_text_suite,
-    suffix_suite, candidates_suite, listing_suite, tones_suite,
-    voicing_suite;
+#define FUNCTION(name, tried_by, ...) extern const struct suite tried_by##_suite;
+#include "functions.def"
 
-static const struct suite *const suites[] = {
-    &quality_suite,
-    &get_note_suite,
-    &transpose_suite,
-    &note_text_suite,
-    &suffix_suite,
-    &candidates_suite,
-    &listing_suite,
-    &tones_suite,
-    &voicing_suite,
+static const struct suite *const suite_of[FUNCTIONS] = {
+#define FUNCTION(name, tried_by, ...) &tried_by##_suite,
+#include "functions.def"
 };
 
 const struct suite *suite_named(const char *name)
 {
-    for (unsigned at = 0; at < LENGTH(suites); at++)
-        if (strcmp(suites[at]->name, name) == 0)
-            return suites[at];
+    for (unsigned at = 0; at < FUNCTIONS; at++)
+        if (strcmp(suite_of[at]->name, name) == 0)
+            return suite_of[at];
     return NULL;
+}
+
+/* One suite may try several functions. */
+static bool is_first(unsigned function)
+{
+    for (unsigned at = 0; at < function; at++)
+        if (suite_of[at] == suite_of[function])
+            return false;
+    return true;
 }
 
 void suites_print(FILE *to)
 {
-    for (unsigned at = 0; at < LENGTH(suites); at++)
-        fprintf(to, "%s %s\n", suites[at]->name, suites[at]->asked ? "oracle" : "alone");
+    for (unsigned at = 0; at < FUNCTIONS; at++)
+        if (is_first(at))
+            fprintf(to, "%s %s\n", suite_of[at]->name, suite_of[at]->asked ? "oracle" : "alone");
 }

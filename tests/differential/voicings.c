@@ -3,21 +3,12 @@
 #include <string.h>
 
 #include "draw.h"
-#include "hemotusap.h"
 #include "length.h"
 #include "lent_call.h"
 #include "written.h"
 
 /* Of the chords one in EVERY_ROOM is tried in every room. */
 enum { EVERY_ROOM = 100 };
-
-static int64_t write_voicing(const struct call *call, uint8_t *out)
-{
-    struct range classes = call->inputs[0], intervals = call->inputs[1];
-    return hemotusap_voicing((uint32_t)call->numbers[0], (uint32_t)call->numbers[1], classes.bytes,
-                             classes.length, intervals.bytes, intervals.length,
-                             (uint32_t)call->numbers[2], out, (size_t)call->room);
-}
 
 struct chord chord_of(int64_t root, int64_t bass, int64_t lead, const struct pool *pool)
 {
@@ -29,6 +20,7 @@ struct chord chord_of(int64_t root, int64_t bass, int64_t lead, const struct poo
 struct call voicing_of(const struct chord *chord)
 {
     return (struct call){.name = "voicing",
+                         .function = &functions[FUNCTION_voicing],
                          .numbers = chord->numbers,
                          .count = LENGTH(chord->numbers),
                          .inputs = chord->ranges,
@@ -39,13 +31,13 @@ struct call voicing_of(const struct chord *chord)
 static void in_room(struct run *run, const struct chord *chord, struct range keys, size_t room)
 {
     const struct call call = voicing_of(chord);
-    expect_written_in(run, &call, write_voicing, keys.bytes, keys.length, room);
+    expect_written_in(run, &call, keys.bytes, keys.length, room);
 }
 
 void expect_voicing_everywhere(struct run *run, const struct chord *chord, struct range keys)
 {
     const struct call call = voicing_of(chord);
-    expect_written(run, &call, write_voicing, keys.bytes, keys.length);
+    expect_written(run, &call, keys.bytes, keys.length);
 }
 
 /* One less, one more, any that is too small, or any. */
@@ -93,16 +85,15 @@ void expect_voicing(struct run *run, const struct chord *chord, struct range key
         with_bad_surplus(run, chord, keys, &state);
 }
 
-void expect_no_voicing_in(struct run *run, const struct chord *chord, enum hemotusap_refusal want,
-                          size_t room)
+void expect_no_voicing_in(struct run *run, const struct chord *chord, int64_t refusal, size_t room)
 {
     const struct call call = voicing_of(chord);
-    expect_unwritten_in(run, &call, write_voicing, want, room);
+    expect_unwritten_in(run, &call, refusal, room);
 }
 
-void expect_no_voicing(struct run *run, const struct chord *chord, enum hemotusap_refusal want)
+void expect_no_voicing(struct run *run, const struct chord *chord, int64_t refusal)
 {
     static const size_t rooms[] = {0, 1, MOST_KEYS};
     for (unsigned at = 0; at < LENGTH(rooms); at++)
-        expect_no_voicing_in(run, chord, want, rooms[at]);
+        expect_no_voicing_in(run, chord, refusal, rooms[at]);
 }

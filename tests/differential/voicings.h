@@ -29,10 +29,9 @@ void expect_voicing(struct run *run, const struct chord *chord, struct range key
 void expect_voicing_everywhere(struct run *run, const struct chord *chord, struct range keys);
 
 /* Refused, in this room. */
-void expect_no_voicing_in(struct run *run, const struct chord *chord, enum hemotusap_refusal want,
-                          size_t room);
+void expect_no_voicing_in(struct run *run, const struct chord *chord, int64_t refusal, size_t room);
 
 /* Refused, in no room, in too little and in enough. */
-void expect_no_voicing(struct run *run, const struct chord *chord, enum hemotusap_refusal want);
+void expect_no_voicing(struct run *run, const struct chord *chord, int64_t refusal);
 
 #endif

@@ -4,7 +4,7 @@
 
 /* What is to come of one call: a refusal, or else this answer, with this text written. */
 struct outcome {
-    enum hemotusap_refusal refusal; /* 0: none */
+    int64_t refusal; /* or NO_REFUSAL */
     int64_t answer;
     const uint8_t *text;
     size_t length;
@@ -21,15 +21,15 @@ static void make_old(const struct outcome *outcome, size_t room)
         old[at] = at < outcome->length ? (uint8_t)~outcome->text[at] : (uint8_t)(0x5A ^ (at * 37));
 }
 
-static void attempt(struct run *run, const struct call *call, callee *callee,
-                    const struct outcome *outcome, enum place place)
+static void attempt(struct run *run, const struct call *call, const struct outcome *outcome,
+                    enum place place)
 {
     int64_t got;
     bool writes = call->room != NO_OUTPUT;
-    bool refused = outcome->refusal != 0;
+    bool refused = outcome->refusal != NO_REFUSAL;
     if (writes)
         make_old(outcome, (size_t)call->room);
-    if (!call_lent(run, call, callee, place, old, &got))
+    if (!call_lent(run, call, place, old, &got))
         return;
     if (refused)
         expect_refusal(run, call, got, outcome->refusal);
@@ -47,13 +47,16 @@ static bool has_empty_range(const struct call *call)
     return call->room == 0;
 }
 
-static void attempt_everywhere(struct run *run, const struct call *call, callee *callee,
+/* Without a range there are no places: one call tells all. */
+static void attempt_everywhere(struct run *run, const struct call *call,
                                const struct outcome *outcome)
 {
-    attempt(run, call, callee, outcome, BETWEEN_CANARIES);
-    attempt(run, call, callee, outcome, BEFORE_FAULTING_PAGE);
+    attempt(run, call, outcome, BETWEEN_CANARIES);
+    if (call->input_count == 0 && call->room == NO_OUTPUT)
+        return;
+    attempt(run, call, outcome, BEFORE_FAULTING_PAGE);
     if (has_empty_range(call))
-        attempt(run, call, callee, outcome, NOWHERE);
+        attempt(run, call, outcome, NOWHERE);
 }
 
 static struct call with_room(const struct call *call, size_t room)
@@ -63,37 +66,39 @@ static struct call with_room(const struct call *call, size_t room)
     return roomy;
 }
 
-void expect_written_in(struct run *run, const struct call *call, callee *callee,
-                       const uint8_t *want, size_t length, size_t room)
+void expect_written_in(struct run *run, const struct call *call, const uint8_t *want, size_t length,
+                       size_t room)
 {
     const struct call roomy = with_room(call, room);
-    const struct outcome outcome = {room < length ? HEMOTUSAP_NO_ROOM : 0, (int64_t)length, want,
-                                    length};
-    attempt_everywhere(run, &roomy, callee, &outcome);
+    const int64_t refusal = room < length ? HEMOTUSAP_NO_ROOM : NO_REFUSAL;
+    const struct outcome outcome = {refusal, (int64_t)length, want, length};
+    attempt_everywhere(run, &roomy, &outcome);
 }
 
-void expect_written(struct run *run, const struct call *call, callee *callee,
-                    const uint8_t *want, size_t length)
+void expect_written(struct run *run, const struct call *call, const uint8_t *want, size_t length)
 {
     for (size_t room = 0; room <= length + 1; room++)
-        expect_written_in(run, call, callee, want, length, room);
+        expect_written_in(run, call, want, length, room);
 }
 
-void expect_unwritten_in(struct run *run, const struct call *call, callee *callee,
-                         enum hemotusap_refusal want, size_t room)
+void expect_unwritten_in(struct run *run, const struct call *call, int64_t refusal, size_t room)
 {
     const struct call roomy = with_room(call, room);
-    attempt_everywhere(run, &roomy, callee, &(const struct outcome){.refusal = want});
+    expect_refused(run, &roomy, refusal);
 }
 
-void expect_unwritten(struct run *run, const struct call *call, callee *callee,
-                      enum hemotusap_refusal want, size_t most)
+void expect_unwritten(struct run *run, const struct call *call, int64_t refusal, size_t most)
 {
     for (size_t room = 0; room <= most; room++)
-        expect_unwritten_in(run, call, callee, want, room);
+        expect_unwritten_in(run, call, refusal, room);
 }
 
-void expect_read(struct run *run, const struct call *call, callee *callee, int64_t want)
+void expect_number(struct run *run, const struct call *call, int64_t want)
 {
-    attempt_everywhere(run, call, callee, &(const struct outcome){.answer = want});
+    attempt_everywhere(run, call, &(const struct outcome){.answer = want});
+}
+
+void expect_refused(struct run *run, const struct call *call, int64_t refusal)
+{
+    attempt_everywhere(run, call, &(const struct outcome){.refusal = refusal});
 }

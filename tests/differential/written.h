@@ -5,22 +5,20 @@
 #include "run.h"
 
 /* This room: too small a one is refusal 7. */
-void expect_written_in(struct run *run, const struct call *call, callee *callee,
-                       const uint8_t *want, size_t length, size_t room);
+void expect_written_in(struct run *run, const struct call *call, const uint8_t *want, size_t length,
+                       size_t room);
 
 /* Rooms 0 to one more than the answer's length. */
-void expect_written(struct run *run, const struct call *call, callee *callee,
-                    const uint8_t *want, size_t length);
+void expect_written(struct run *run, const struct call *call, const uint8_t *want, size_t length);
 
 /* This room: refused. */
-void expect_unwritten_in(struct run *run, const struct call *call, callee *callee,
-                         enum hemotusap_refusal want, size_t room);
+void expect_unwritten_in(struct run *run, const struct call *call, int64_t refusal, size_t room);
 
 /* Rooms 0 to `most`: refused in each. */
-void expect_unwritten(struct run *run, const struct call *call, callee *callee,
-                      enum hemotusap_refusal want, size_t most);
+void expect_unwritten(struct run *run, const struct call *call, int64_t refusal, size_t most);
 
-/* A call that reads its inputs and has no output. */
-void expect_read(struct run *run, const struct call *call, callee *callee, int64_t want);
+/* Calls that have no output. */
+void expect_number(struct run *run, const struct call *call, int64_t want);
+void expect_refused(struct run *run, const struct call *call, int64_t refusal);
 
 #endif

@@ -1,7 +1,6 @@
-# How the drivers of this folder are built and the fuzzer is run.
+# How the drivers of this folder, and of tests/wrong, are built and the fuzzer is run.
 
-shared=(tests/load/{functions,made}.c tests/differential/{call,run,draw,lent}.c)
-options=(-std=c11 -O2 -Wall -Wextra -Werror -I include -I tests/differential -I tests/load)
+shared=(tests/load/made.c tests/boundary/*.c tests/draws/draw.c tests/differential/{run,lent}.c)
 
 # The fuzzer and the sanitizer come in a package of their own, which the compiler does not need.
 need_fuzzer() {
@@ -12,7 +11,7 @@ need_fuzzer() {
 }
 
 build_fuzzer() { # PROGRAM ARCHIVE [FILES AND WORDS...]
-  clang-14 "${options[@]}" -g -fsanitize=fuzzer,address tests/load/fuzz.c tests/differential/{lent_call,fault}.c \
+  clang-14 "${c_options[@]}" -g -fsanitize=fuzzer,address tests/load/fuzz.c tests/differential/{lent_call,fault}.c \
     "${shared[@]}" "${@:3}" "$2" -o "$1"
 }
 
@@ -22,5 +21,5 @@ fuzz() { # PROGRAM EXECUTIONS SEED FOLDER
 }
 
 build_alone() { # NAME ARCHIVE PROGRAM COMPILER...
-  "${@:4}" "${options[@]}" "tests/load/$1.c" "${shared[@]}" "$2" -pthread -o "$3"
+  "${@:4}" "${c_options[@]}" "tests/$1.c" "${shared[@]}" "$2" -pthread -o "$3"
 }

@@ -8,7 +8,7 @@
 #include "lent_call.h"
 #include "made.h"
 
-enum { COUNTERS = 512, LOWEST = HEMOTUSAP_NO_ROOM, ENOUGH = 100000 };
+enum { COUNTERS = 512, ENOUGH = 100000 };
 
 /* The fuzzer's own names. */
 int LLVMFuzzerTestOneInput(const uint8_t *data, size_t size);
@@ -29,7 +29,8 @@ static uint8_t old[2][MOST_ROOM];
 static struct run run = {.suite = "fuzz", .mode = CHECKING};
 static uint64_t executions;
 static bool calling; /* an exit from within is no end of the run */
-static uint64_t met[FUNCTIONS][LOWEST + 1]; /* by refusal; 0: answered */
+static uint64_t answered[FUNCTIONS];
+static uint64_t refused[FUNCTIONS][MOST_REFUSALS + 1]; /* the last: by a refusal it has not */
 
 /* The library is compiled as it is shipped, and tells the fuzzer nothing of its branches. So a new
    outcome is what counts as news, as far as a short hash tells. Volatile, since none reads it. */
@@ -38,27 +39,31 @@ __attribute__((section("__libfuzzer_extra_counters"))) static volatile uint8_t
 
 static void count(const struct made *made, const struct outcome *outcome)
 {
-    ptrdiff_t function = made->function - functions;
+    const struct function *function = made->call.function;
+    ptrdiff_t at_row = function - functions;
     uint32_t hash = (uint32_t)outcome->answer;
     for (size_t at = 0; at < outcome->written; at++)
         hash = hash * 31 + outcome->bytes[at];
-    came[function][hash % COUNTERS] = 1;
-    met[function][outcome->answer < 0 ? -outcome->answer : 0]++;
+    came[at_row][hash % COUNTERS] = 1;
+    if (outcome->answer < 0)
+        refused[at_row][refusal_at(function, outcome->answer)]++;
+    else
+        answered[at_row]++;
 }
 
 static bool attempt(const struct made *made, enum place place, const uint8_t *old,
                     struct outcome *outcome)
 {
     const struct call *call = &made->call;
-    if (!call_lent(&run, call, made->function->callee, place, old, &outcome->answer))
+    if (!call_lent(&run, call, place, old, &outcome->answer))
         return false;
-    if (!may_answer(made->function, call, outcome->answer)) {
+    if (!may_answer(call, outcome->answer)) {
         mismatch(&run, call, "answered %" PRId64 ", which the header has not", outcome->answer);
         return false;
     }
-    if (!made->function->writes)
+    if (call->room == NO_OUTPUT)
         return true;
-    outcome->written = outcome->answer < 0 ? 0 : (size_t)outcome->answer;
+    outcome->written = written_by(call, outcome->answer);
     memcpy(outcome->bytes, lent_output(), outcome->written);
     expect_output(&run, call, outcome->bytes, outcome->written);
     return true;
@@ -100,10 +105,10 @@ size_t LLVMFuzzerCustomMutator(uint8_t *data, size_t size, size_t most, unsigned
 
 static bool all_met(size_t function)
 {
-    for (unsigned refusal = 1; refusal <= LOWEST; refusal++)
-        if ((functions[function].refusals >> refusal & 1) != 0 && met[function][refusal] == 0)
+    for (unsigned at = 0; functions[function].refusals[at].number != NO_REFUSAL; at++)
+        if (refused[function][at] == 0)
             return false;
-    return met[function][0] > 0;
+    return answered[function] > 0;
 }
 
 /* A long run that has not met each refusal of each function has tested nothing. */
@@ -113,7 +118,7 @@ static void tell(void)
     if (calling)
         return;
     for (size_t function = 0; function < FUNCTIONS; function++) {
-        answers += met[function][0];
+        answers += answered[function];
         missing += !all_met(function);
     }
     printf("fuzz: %" PRIu64 " executions of 2 calls, %" PRIu64 " answered and %" PRIu64

@@ -1,7 +1,6 @@
 #include "made.h"
 
 #include "draw.h"
-#include "hemotusap.h"
 #include "length.h"
 
 struct source {
@@ -19,15 +18,15 @@ static uint32_t take(struct source *from, unsigned bytes)
 }
 
 /* Of 16 numbers 13 are good, two stand at an edge and one is any of 32 bits. */
-static int64_t take_number(struct source *from, struct limits good)
+static int64_t take_number(struct source *from, const struct parameter *good)
 {
-    const int64_t edges[] = {good.low - 1, good.high + 1, 255, 256, INT32_MAX, INT32_MIN, -1, 16};
+    const int64_t edges[] = {good->low - 1, good->high + 1, 255, 256, INT32_MAX, INT32_MIN, -1, 16};
     uint32_t kind = take(from, 1) % 16;
     if (kind == 15)
         return (int32_t)take(from, 4);
     if (kind >= 13)
         return edges[take(from, 1) % LENGTH(edges)];
-    return good.low + take(from, 2) % (good.high - good.low + 1);
+    return good->low + take(from, 2) % (good->high - good->low + 1);
 }
 
 static int64_t take_room(struct source *from, int64_t most)
@@ -49,42 +48,59 @@ static size_t take_suffix(struct source *from, uint8_t *bytes)
     return (size_t)length;
 }
 
-static size_t take_bytes(struct source *from, uint8_t highest, uint8_t *bytes)
+static size_t take_bytes(struct source *from, int64_t highest, uint8_t *bytes)
 {
     uint32_t kind = take(from, 1);
     size_t length = kind % 8 == 0 ? take(from, 2) % (MOST_INPUT + 1) : kind / 8 % 18;
     bool good = take(from, 1) % 16 != 0;
     for (size_t at = 0; at < length; at++) {
         uint32_t byte = take(from, 1);
-        bytes[at] = (uint8_t)(good ? byte % (highest + 1u) : byte);
+        bytes[at] = (uint8_t)(good ? byte % (highest + 1) : byte);
     }
     return length;
 }
 
+static struct range take_input(struct source *from, const struct parameter *input, uint8_t *bytes)
+{
+    bool suffix = input->is_suffix && take(from, 1) % 2 == 0;
+    size_t length = suffix ? take_suffix(from, bytes) : take_bytes(from, input->high, bytes);
+    return (struct range){bytes, length};
+}
+
+static void take_numbers(struct source *from, struct made *made)
+{
+    const struct parameter *at = made->call.function->parameters;
+    for (; at->kind != NO_PARAMETER; at++)
+        if (at->kind == A_NUMBER || at->kind == A_SIGNED_NUMBER) {
+            made->numbers[at->at] = take_number(from, at);
+            made->call.count++;
+        }
+}
+
 static void take_inputs(struct source *from, struct made *made)
 {
-    const struct function *function = made->function;
-    for (size_t at = 0; at < function->input_count; at++) {
-        uint8_t *bytes = made->bytes[at];
-        bool suffix = function->of_suffixes && take(from, 1) % 2 == 0;
-        size_t length =
-            suffix ? take_suffix(from, bytes) : take_bytes(from, function->highest[at], bytes);
-        made->inputs[at] = (struct range){bytes, length};
-    }
+    const struct parameter *at = made->call.function->parameters;
+    for (; at->kind != NO_PARAMETER; at++)
+        if (at->kind == AN_INPUT) {
+            made->inputs[at->at] = take_input(from, at, made->bytes[at->at]);
+            made->call.input_count++;
+        }
 }
 
 void make_call(struct made *made, const uint8_t *data, size_t size)
 {
     struct source from = {data, size, 0};
     const struct function *function = &functions[take(&from, 1) % FUNCTIONS];
-    made->function = function;
+    made->call = (struct call){.name = function->name,
+                               .function = function,
+                               .numbers = made->numbers,
+                               .inputs = made->inputs,
+                               .room = NO_OUTPUT};
     made->nowhere = take(&from, 1) % 4 == 0;
-    for (size_t at = 0; at < function->number_count; at++)
-        made->numbers[at] = take_number(&from, function->numbers[at]);
-    int64_t room = function->writes ? take_room(&from, function->answers.high) : NO_OUTPUT;
+    take_numbers(&from, made);
+    if (function_writes(function))
+        made->call.room = take_room(&from, function->answers.high);
     take_inputs(&from, made);
-    made->call = (struct call){function->name, made->numbers, function->number_count,
-                               made->inputs, function->input_count, room};
 }
 
 void draw_call(struct made *made, unsigned function, uint64_t number)

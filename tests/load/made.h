@@ -7,11 +7,10 @@
 enum { MOST_INPUT = 600, MOST_ROOM = 1200, MOST_BYTES = 2 * MOST_INPUT };
 
 struct made {
-    const struct function *function;
     struct call call; /* points into this: it is not to be copied */
-    int64_t numbers[MOST_NUMBERS];
-    struct range inputs[MOST_RANGES];
-    uint8_t bytes[MOST_RANGES][MOST_INPUT];
+    int64_t numbers[MOST_PARAMETERS];
+    struct range inputs[MOST_INPUTS];
+    uint8_t bytes[MOST_INPUTS][MOST_INPUT];
     bool nowhere; /* its empty ranges are NULL */
 };
 

@@ -21,7 +21,7 @@ static volatile int64_t answer;
 static void make(void)
 {
     caller = __builtin_frame_address(0);
-    answer = making->function->callee(&making->call, out);
+    answer = making->call.function->callee(&making->call, out);
 }
 
 static void call_inside(void)
@@ -56,7 +56,7 @@ static size_t largest_use(unsigned function, uint64_t count)
     for (uint64_t number = 0; number < count; number++) {
         draw_call(&made, function, number);
         for (unsigned roomy = 0; roomy < 2; roomy++) {
-            if (roomy && made.function->writes)
+            if (roomy && made.call.room != NO_OUTPUT)
                 made.call.room = MOST_ROOM;
             size_t use = use_of(&made);
             if (use > largest)

@@ -6,11 +6,13 @@
 #include <stdatomic.h>
 #include <stdlib.h>
 #include <string.h>
+#include <time.h>
 
 #include "made.h"
 #include "run.h"
 
-enum { THREADS = 8, EACH = 200, ROUNDS = 500, LISTING_ROUNDS = 10 };
+/* A function is slow when each of its calls takes this long, as a search of all sets does. */
+enum { THREADS = 8, EACH = 200, ROUNDS = 500, SLOW_ROUNDS = 10, SLOW_MICROSECONDS = 20 };
 
 struct outcome {
     int64_t answer;
@@ -19,6 +21,7 @@ struct outcome {
 
 static struct made calls[FUNCTIONS][EACH];
 static struct outcome alone[FUNCTIONS][EACH];
+static unsigned rounds[FUNCTIONS];
 static pthread_barrier_t start;
 static atomic_long made_by_all, different;
 
@@ -26,19 +29,13 @@ static atomic_long made_by_all, different;
 static void make(const struct made *made, struct outcome *outcome)
 {
     memset(outcome->bytes, 0x5A, sizeof outcome->bytes);
-    outcome->answer = made->function->callee(&made->call, outcome->bytes);
+    outcome->answer = call_library(&made->call, outcome->bytes);
 }
 
 static bool same(const struct outcome *one, const struct outcome *other)
 {
     return one->answer == other->answer &&
            memcmp(one->bytes, other->bytes, sizeof one->bytes) == 0;
-}
-
-/* A listing takes as long as hundreds of other calls. */
-static unsigned rounds_of(unsigned function)
-{
-    return strcmp(functions[function].name, "listing") == 0 ? LISTING_ROUNDS : ROUNDS;
 }
 
 static void call_all(unsigned function, unsigned first)
@@ -58,7 +55,7 @@ static void *work(void *first)
 {
     for (unsigned function = 0; function < FUNCTIONS; function++) {
         pthread_barrier_wait(&start);
-        for (unsigned round = rounds_of(function); round > 0; round--)
+        for (unsigned round = rounds[function]; round > 0; round--)
             call_all(function, *(const unsigned *)first);
     }
     return NULL;
@@ -80,13 +77,21 @@ static void run_threads(void)
             fail("thread %u does not end", at);
 }
 
+static void call_alone(unsigned function)
+{
+    for (unsigned at = 0; at < EACH; at++)
+        draw_call(&calls[function][at], function, at);
+    clock_t before = clock();
+    for (unsigned at = 0; at < EACH; at++)
+        make(&calls[function][at], &alone[function][at]);
+    clock_t slow = (clock_t)EACH * SLOW_MICROSECONDS * CLOCKS_PER_SEC / 1000000;
+    rounds[function] = clock() - before < slow ? ROUNDS : SLOW_ROUNDS;
+}
+
 int main(void)
 {
     for (unsigned function = 0; function < FUNCTIONS; function++)
-        for (unsigned at = 0; at < EACH; at++) {
-            draw_call(&calls[function][at], function, at);
-            make(&calls[function][at], &alone[function][at]);
-        }
+        call_alone(function);
     run_threads();
     if (different != 0)
         fail("%ld calls of %d threads answered otherwise than alone", (long)different, THREADS);

@@ -1,23 +1,38 @@
-/* Calls that are wrong on purpose: the linker's --wrap puts them between a driver and the library.
-   WRONG=FUNCTION:FAULT in the environment says which function has which fault; the others are as
-   they are. */
-#include <stdbool.h>
-#include <stdio.h>
+/* Calls that are wrong on purpose: the linker's --wrap puts them in the place of the drivers' one
+   way to the library. WRONG=FUNCTION:FAULT in the environment says which function has which fault;
+   the others are as they are. list.c lists the faults. */
 #include <stdlib.h>
 #include <string.h>
 
-#include "hemotusap.h"
+#include "functions.h"
 
 enum { RARE = 97, MOST_ROOM = 1200, WHILE = 2000 };
 
-static int64_t other_refusal(int64_t got)
-{
-    return -(-got % HEMOTUSAP_NO_ROOM + 1);
-}
+int64_t __real_call_library(const struct call *call, uint8_t *out);
+int64_t __wrap_call_library(const struct call *call, uint8_t *out);
 
 static bool has(const char *fault, const char *name)
 {
     return strcmp(fault, name) == 0;
+}
+
+/* The first refusal of a function that is not this answer; or the answer. */
+static int64_t refusal_beside(const struct function *function, int64_t got)
+{
+    const struct refusal *at = function->refusals;
+    for (; at->number != NO_REFUSAL; at++)
+        if (refusal_answer(at) != got)
+            return refusal_answer(at);
+    return got;
+}
+
+/* Of the function's own if it has two, or of the next in the table. */
+static int64_t other_refusal(const struct function *function, int64_t got)
+{
+    int64_t other = refusal_beside(function, got);
+    for (unsigned at = 0; other == got && at < FUNCTIONS; at++)
+        other = refusal_beside(&functions[at], got);
+    return other;
 }
 
 /* Long enough there for another thread to come by. */
@@ -31,75 +46,75 @@ static void by_a_shared_buffer(uint8_t *out, size_t length)
 }
 
 /* A byte of the output that is not to be touched, or a wrong one that is. */
-static void damage(const char *fault, int64_t got, uint8_t *out, size_t room)
+static void damage(const char *fault, const struct call *call, int64_t got, uint8_t *out)
 {
-    if (out == NULL)
-        return;
-    if (has(fault, "first_byte") && got > 0)
+    size_t room = (size_t)call->room, written = written_by(call, got);
+    if (has(fault, "first_byte") && written > 0)
         out[0] ^= 1;
-    if (has(fault, "last_byte") && got > 0)
-        out[got - 1] ^= 1;
-    if (has(fault, "behind_the_answer") && got >= 0 && (size_t)got < room)
-        out[got] ^= 1;
+    if (has(fault, "last_byte") && written > 0)
+        out[written - 1] ^= 1;
+    if (has(fault, "behind_the_answer") && got >= 0 && written < room)
+        out[written] ^= 1;
     if (has(fault, "after_a_refusal") && got < 0 && room > 0)
         out[room / 2] ^= 1;
     if (has(fault, "behind_the_room"))
         out[room] ^= 1;
     if (has(fault, "before_the_room"))
         out[-1] ^= 1;
-    if (has(fault, "by_a_shared_buffer") && got > 0 && got <= MOST_ROOM)
-        by_a_shared_buffer(out, (size_t)got);
+    if (has(fault, "by_a_shared_buffer") && written <= MOST_ROOM)
+        by_a_shared_buffer(out, written);
 }
 
-static int64_t faulty(const char *fault, int64_t got, uint8_t *out, size_t room)
+/* The call with the numbers, or the inputs, of two parameters exchanged. */
+static int64_t call_swapped(const char *places, const struct call *call, uint8_t *out)
+{
+    const struct parameter *parameters = call->function->parameters;
+    char *behind;
+    const struct parameter *one = &parameters[strtoul(places, &behind, 10)];
+    const struct parameter *other = &parameters[strtoul(behind + 1, NULL, 10)];
+    struct call swapped = *call;
+    int64_t numbers[MOST_PARAMETERS];
+    struct range inputs[MOST_INPUTS];
+    for (size_t at = 0; at < call->count; at++)
+        numbers[at] = call->numbers[at];
+    for (size_t at = 0; at < call->input_count; at++)
+        inputs[at] = call->inputs[at];
+    if (one->kind == AN_INPUT) {
+        inputs[one->at] = call->inputs[other->at];
+        inputs[other->at] = call->inputs[one->at];
+    } else {
+        numbers[one->at] = call->numbers[other->at];
+        numbers[other->at] = call->numbers[one->at];
+    }
+    swapped.numbers = numbers;
+    swapped.inputs = inputs;
+    return __real_call_library(&swapped, out);
+}
+
+static int64_t call_wrongly(const char *fault, const struct call *call, uint8_t *out)
 {
     static unsigned calls;
+    static const char swapped[] = "swapped_parameters_";
     bool now = ++calls % RARE == 0;
-    damage(fault, got, out, room);
+    if (strncmp(fault, swapped, sizeof swapped - 1) == 0)
+        return call_swapped(fault + sizeof swapped - 1, call, out);
+    int64_t got = __real_call_library(call, out);
+    if (out != NULL)
+        damage(fault, call, got, out);
     if (has(fault, "one_more") || (has(fault, "now_and_then") && now))
-        return got < 0 ? other_refusal(got) : got + 1;
+        return got < 0 ? other_refusal(call->function, got) : got + 1;
     if (has(fault, "other_refusal") && got < 0)
-        return other_refusal(got);
+        return other_refusal(call->function, got);
     if (has(fault, "refuses_always"))
-        return out == NULL ? -HEMOTUSAP_NOT_A_SET : -HEMOTUSAP_NO_ROOM;
+        return out == NULL ? other_refusal(call->function, 0) : -HEMOTUSAP_NO_ROOM;
     return got;
 }
 
-static int64_t perhaps(const char *function, int64_t got, uint8_t *out, size_t room)
+int64_t __wrap_call_library(const struct call *call, uint8_t *out)
 {
     const char *wrong = getenv("WRONG");
-    size_t length = strlen(function);
-    if (wrong == NULL || strncmp(wrong, function, length) != 0 || wrong[length] != ':')
-        return got;
-    return faulty(wrong + length + 1, got, out, room);
+    size_t length = strlen(call->function->name);
+    if (wrong == NULL || strncmp(wrong, call->function->name, length) != 0 || wrong[length] != ':')
+        return __real_call_library(call, out);
+    return call_wrongly(wrong + length + 1, call, out);
 }
-
-#define WRAP(name, parameters, arguments, out, room)                         \
-    int64_t __real_hemotusap_##name parameters;                              \
-    int64_t __wrap_hemotusap_##name parameters;                              \
-    int64_t __wrap_hemotusap_##name parameters                               \
-    {                                                                        \
-        return perhaps(#name, __real_hemotusap_##name arguments, out, room); \
-    }
-
-WRAP(quality, (uint32_t set), (set), NULL, 0)
-WRAP(suffix, (uint32_t set, uint8_t *out, size_t room), (set, out, room), out, room)
-WRAP(listing, (const uint8_t *text, size_t length, uint8_t *out, size_t room),
-     (text, length, out, room), out, room)
-WRAP(tones, (uint32_t root, uint32_t set, uint8_t *out, size_t room), (root, set, out, room), out,
-     room)
-WRAP(candidates, (const uint8_t *codes, size_t count, uint8_t *out, size_t room),
-     (codes, count, out, room), out, room)
-WRAP(candidate_count, (const uint8_t *codes, size_t count), (codes, count), NULL, 0)
-WRAP(note_text, (uint32_t letter, int32_t count, uint8_t *out, size_t room),
-     (letter, count, out, room), out, room)
-WRAP(get_note, (uint32_t letter, int32_t count, uint32_t semitones, uint32_t degree),
-     (letter, count, semitones, degree), NULL, 0)
-WRAP(transpose,
-     (uint32_t from, int32_t from_count, uint32_t letter, int32_t count, uint32_t to,
-      int32_t to_count),
-     (from, from_count, letter, count, to, to_count), NULL, 0)
-WRAP(voicing,
-     (uint32_t root, uint32_t bass, const uint8_t *classes, size_t class_count,
-      const uint8_t *intervals, size_t interval_count, uint32_t lead, uint8_t *out, size_t room),
-     (root, bass, classes, class_count, intervals, interval_count, lead, out, room), out, room)

@@ -1,0 +1,18 @@
+-- `requests::candidate_count` is safe: no more bytes are lent than were read.
+use mathlib.Core.Path.{sym}
+use lib.Seq.{length-take-le}
+use native.Mathlib.Omega.{arith}
+use borrow.Author.Needs.{needs}
+use Rattle.requests.proofs.candidate_count.Statement.{statement}
+use Rattle.requests.proofs.candidate_count.Tie as tie
+
+pub candidate-count-spec : {M : Type 1} → statement M
+candidate-count-spec =
+    tie.close
+    (tie.spec
+    (λ c. search needs)
+    (λ c κs. search needs)
+    (λ c. omega arith)
+    (λ c. sym (length-take-le _ _ (c .before .before .bytes .ensures)))
+    (λ c κs. search needs)
+    (λ c. search needs))

@@ -1,0 +1,26 @@
+-- `requests::line::part` is safe, ends, and stays in the line.
+use Prim.Native.Nat.{_≤_}
+use lib.ListN.{length as size}
+use native.Mathlib.Omega.{arith}
+use borrow.Author.Needs.{needs}
+use Rattle.requests.proofs.line.part.Statement.{statement}
+use Rattle.requests.proofs.line.part.Tie as tie
+
+abbrev Inv-loop : tie.InvT-loop
+Inv-loop line number at₀ left₀ at left = at ≤ size line
+
+abbrev μ-loop : tie.MeasureT-loop
+μ-loop line number at₀ left₀ at left = left
+
+pub part-spec : {M : Type 1} → statement M
+part-spec =
+    tie.close
+    (tie.spec
+    Inv-loop
+    μ-loop
+    (λ c. omega arith)
+    (λ c κs. search needs)
+    (λ c. omega arith)
+    (λ c. omega arith)
+    (λ c. omega arith)
+    (λ c. search needs))

@@ -1,0 +1,89 @@
+#include "functions.h"
+
+/* First the parameters as arguments, in a callee for each function.. */
+#define NUMBER(at, ...) (uint32_t)call->numbers[at]
+#define SIGNED(at, ...) (int32_t)call->numbers[at]
+#define INPUT(at, highest) call->inputs[at].bytes, call->inputs[at].length
+#define SUFFIX(at) INPUT(at, 255)
+#define OUTPUT out, (size_t)call->room
+
+#define FUNCTION(name, suite, parameters, ...)                         \
+    static int64_t name(const struct call *call, uint8_t *out)         \
+    {                                                                  \
+        (void)out;                                                     \
+        return hemotusap_##name parameters;                            \
+    }
+#include "functions.def"
+
+#undef NUMBER
+#undef SIGNED
+#undef INPUT
+#undef SUFFIX
+#undef OUTPUT
+
+/* ..then as what is known of them. */
+#define NUMBER(at, ...) {A_NUMBER, at, __VA_ARGS__, false}
+#define SIGNED(at, ...) {A_SIGNED_NUMBER, at, __VA_ARGS__, false}
+#define INPUT(at, highest) {AN_INPUT, at, 0, highest, false}
+#define SUFFIX(at) {AN_INPUT, at, 0, 255, true}
+#define OUTPUT {AN_OUTPUT, 0, 0, 255, false}
+#define ANY(low, high) {low, high, 1, 0}
+#define EVEN(low, high) {low, high, 2, 0}
+#define NOTE {0, 16 * 6 + 12, 16, 12}
+#define REFUSAL(name) {HEMOTUSAP_##name, 0}
+#define PLACED(name, places) {HEMOTUSAP_##name, places}
+#define NEVER {NO_REFUSAL, 0}
+#define LIST(...) {__VA_ARGS__}
+
+const struct function functions[FUNCTIONS] = {
+#define FUNCTION(name, suite, parameters, answers, ...) \
+    {#name, #suite, name, LIST parameters, answers, {__VA_ARGS__}},
+#include "functions.def"
+};
+
+bool function_writes(const struct function *function)
+{
+    for (const struct parameter *at = function->parameters; at->kind != NO_PARAMETER; at++)
+        if (at->kind == AN_OUTPUT)
+            return true;
+    return false;
+}
+
+int64_t refusal_answer(const struct refusal *refusal)
+{
+    return refusal->places == 0 ? -refusal->number : -256 * refusal->number;
+}
+
+unsigned refusal_at(const struct function *function, int64_t answer)
+{
+    unsigned at = 0;
+    for (; function->refusals[at].number != NO_REFUSAL; at++) {
+        const struct refusal *refusal = &function->refusals[at];
+        int64_t first = refusal_answer(refusal);
+        if (answer == first || (answer < first && answer > first - refusal->places))
+            return at;
+    }
+    return MOST_REFUSALS;
+}
+
+bool may_answer(const struct call *call, int64_t answer)
+{
+    const struct function *function = call->function;
+    const struct answers *answers = &function->answers;
+    bool writes = function_writes(function);
+    if (answer < 0)
+        return refusal_at(function, answer) != MOST_REFUSALS &&
+               (answer != -HEMOTUSAP_NO_ROOM || call->room < answers->high);
+    return answer >= answers->low && answer <= answers->high &&
+           answer % answers->unit <= answers->most_left && (!writes || answer <= call->room);
+}
+
+size_t written_by(const struct call *call, int64_t answer)
+{
+    return answer < 0 || !function_writes(call->function) ? 0 : (size_t)answer;
+}
+
+int64_t call_library(const struct call *call, uint8_t *out)
+{
+    return call->function->callee(call, out);
+}

@@ -1,0 +1,62 @@
+/* Lists the wrong calls, a line each: the function, its fault, and who has to find it, which is the
+   function's suite, the fuzzer or the threads. */
+#include "functions.h"
+#include "length.h"
+
+static const struct fault {
+    const char *name;
+    bool of_refusals; /* of functions that refuse, */
+    bool of_outputs;  /* and of those that write */
+    bool is_seen;     /* by the fuzzer, which has no oracle */
+} faults[] = {
+    {"one_more", false, false, false},
+    {"refuses_always", false, false, false},
+    {"now_and_then", false, false, true},
+    {"other_refusal", true, false, false},
+    {"first_byte", false, true, false},
+    {"last_byte", false, true, false},
+    {"behind_the_answer", false, true, true},
+    {"behind_the_room", false, true, true},
+    {"before_the_room", false, true, true},
+    {"after_a_refusal", true, true, true},
+};
+
+static void list(const struct function *function, const struct fault *fault)
+{
+    if (fault->of_refusals && function->refusals[0].number == NO_REFUSAL)
+        return;
+    if (fault->of_outputs && !function_writes(function))
+        return;
+    printf("%s %s %s\n", function->name, fault->name, function->suite);
+    if (fault->is_seen)
+        printf("%s %s fuzzer\n", function->name, fault->name);
+}
+
+/* The note and `to` count alike in a transposition, note + to - from: no answer of the whole domain
+   tells their letters apart, or their accidentals. */
+static bool count_alike(const struct function *function, unsigned one)
+{
+    return function == &functions[FUNCTION_transpose] && one >= 2;
+}
+
+/* Each pair of one type, since a compiler takes them in either order. */
+static void list_swapped(const struct function *function)
+{
+    const struct parameter *parameters = function->parameters;
+    for (unsigned one = 0; parameters[one].kind != NO_PARAMETER; one++)
+        for (unsigned other = one + 1; parameters[other].kind != NO_PARAMETER; other++)
+            if (parameters[one].kind == parameters[other].kind && !count_alike(function, one))
+                printf("%s swapped_parameters_%u_%u %s\n", function->name, one, other,
+                       function->suite);
+}
+
+int main(void)
+{
+    for (unsigned function = 0; function < FUNCTIONS; function++) {
+        for (unsigned fault = 0; fault < LENGTH(faults); fault++)
+            list(&functions[function], &faults[fault]);
+        list_swapped(&functions[function]);
+    }
+    printf("%s by_a_shared_buffer threads\n", functions[FUNCTION_suffix].name);
+    return 0;
+}
