@@ -1,42 +1,27 @@
 -- What is written off a descriptor is the suffix of its set.
---     modifier-word    a modifier's word by the row of a quality
 --     head-told        what stands before the parentheses
 --     parts-told       what stands in them
 --     small-told       its sets are of the 23 intervals
-use mathlib.Core.Path.{_≡_, refl, ap, ap₂, _∙_}
-use mathlib.Core.Bool.{Bool, true, false, cond, not, _||_}
-use mathlib.Core.List.{List, [], _++_}
+use mathlib.Core.Path.{_≡_, refl, ap₂, _∙_}
+use mathlib.Core.Bool.{Bool, true, false, not, _||_}
+use mathlib.Core.List.{List, _++_}
 use Prim.Native.Nat.{ℕ}
 use lib.Bits.{bitAnd, bitXor}
 use lib.Dec.{eqb}
-use Rattle.answer.specs.Words.{low, packed}
 use Rattle.intervals.specs.Sets.{isRooted}
-use Rattle.intervals.specs.Intervals.{notationOf, setOf}
+use Rattle.intervals.specs.Intervals.{setOf}
 use Rattle.intervals.proofs.Rows.{set-small}
 use Rattle.intervals.specs.declared.interval.Interval.the-variants.{Ninth}
-use Rattle.intervals.specs.declared.interval.Numbered.{Numbered}
-use Rattle.intervals.specs.declared.interval.Numbered.the-variants.{Is, Nothing}
-use Rattle.qualities.specs.declared.quality.ChordQuality.{ChordQuality}
 use Rattle.rules.specs.Classes.{only, intervalsIn, intervalsOf}
 use Rattle.rules.specs.Parts.{suffixQuality, lastAdd}
 use Rattle.rules.specs.Stack.{addsOf}
-use Rattle.rules.specs.Heading.{showsModifier, unmodified, modified, nine, heading, sus}
+use Rattle.rules.specs.Heading.{nine, heading, sus}
 use Rattle.rules.specs.Suffix.{worded, parts}
 use Rattle.rules.proofs.Tested as Tested
 use Rattle.rules.proofs.Told.{alterations-listed, adds-listed, omits-listed}
 use Rattle.descriptors.specs.Descriptors.{descriptorOf}
 use Rattle.inference.specs.private.Prefixes.{prefixText, addWhere}
-use Rattle.inference.specs.private.Described.{modifierWord, headOf, addPartsOf, partsOf, Small}
-
-packed-where : (b : Bool) (t : List ℕ) → cond b (packed t) 0 ≡ packed (cond b t [])
-unfolding low packed
-packed-where true t = refl
-packed-where false t = refl
-
-pub modifier-word : (q : ChordQuality) (shows : Bool) (without : ℕ) (m : Numbered) → shows ≡ showsModifier q → without ≡ packed (unmodified q)
-    → modifierWord shows without m ≡ packed (modified q m)
-modifier-word q shows without (Is i) e f = ap (λ (b : Bool). cond b (packed (notationOf i)) 0) e ∙ packed-where (showsModifier q) (notationOf i)
-modifier-word q shows without Nothing e f = f
+use Rattle.inference.specs.private.Described.{headOf, addPartsOf, partsOf, Small}
 
 -- the 9 behind the `6` is there where its set is not empty
 nine-flag : (b : Bool) → not (eqb (setOf (only b Ninth)) 0) ≡ b

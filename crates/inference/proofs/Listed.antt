@@ -12,11 +12,11 @@ use native.Mathlib.Nat.{add-zero, zero-add}
 use lib.Dec.{eqb}
 use lib.ListN.{length, length-append}
 use borrow.Author.Tests.{eq-eqb, ne-eqb}
-use Rattle.answer.specs.Words.{bytes, packed, placeAfter, putAt}
+use Rattle.answer.specs.Words.{bytes, placeAfter, putAt}
 use Rattle.rules.specs.Suffix.{listed, close, parenthesized}
 use Rattle.answer.specs.Written.{Writes}
 use Rattle.answer.proofs.Writing.{also, put-short, Puts, no-puts, then-puts}
-use Rattle.inference.proofs.Texts.{closing-short}
+use Rattle.inference.proofs.Texts.{closing-word}
 
 listed-behind : (P Q : List (List ℕ)) → listed false (P ++ Q) ≡ listed false P ++ listed false Q
 unfolding listed
@@ -73,12 +73,13 @@ fits {l₀} {l} {start} {r} {P} p Q R W e room =
     omega (arith, p .puts .wrote .place, p .puts .same)
 
 pub closed : {l₀ l : List ℕ} {start r : ℕ} {P : List (List ℕ)} → Listing l₀ start P r l → (word r′ : ℕ) (l′ : List ℕ)
-    → word ≡ packed (cond (eqb r start) [] (bytes ")")) → start + length (parenthesized P) + 8 ≤ length l₀
+    → word ≡ cond (eqb r start) 0 0x0100000000000029 → start + length (parenthesized P) + 8 ≤ length l₀
     → (r′ ≡ placeAfter l r word) × (l′ ≡ putAt l r word) → Writes l₀ start (parenthesized P) r′ l′
 unfolding parenthesized
 closed {l₀} {l} {start} {r} {P} p word r′ l′ e room told =
     let sum = length-append (listed true P) (close P) in
-    let put = put-short (cond (eqb r start) [] (bytes ")")) (closing-short (eqb r start)) l r word r′ l′ e (omega (arith, p .puts .wrote .place, p .puts .same)) told in
+    let is-closing = closing-word (eqb r start) in
+    let put = put-short (cond (eqb r start) [] (bytes ")")) (is-closing .short) l r word r′ l′ (e ∙ is-closing .is) (omega (arith, p .puts .wrote .place, p .puts .same)) told in
     subst (λ (x : List ℕ). Writes l₀ start (listed true P ++ x) r′ l′) (ended start r P (p .puts .wrote .place)) (also (p .puts .wrote) put)
 
 pub starts-before : {l₀ l : List ℕ} {start r : ℕ} {P : List (List ℕ)} → Listing l₀ start P r l → start ≤ r

@@ -1,14 +1,17 @@
 // The suffix of a rooted set, as the Rust's `inference/normalize.rs` writes it: quality with modifier, `sus`, then in one pair
 // of parentheses alterations, adds, omits.
+use crate::wording::CLOSE;
+use crate::wording::COMMA;
+use crate::wording::NINE;
+use crate::wording::NOTHING;
+use crate::wording::OPEN;
 use crate::wording::Prefix;
+use crate::wording::SUS;
 use crate::wording::add_where;
-use crate::wording::closing;
+use crate::wording::either;
 use crate::wording::modifier_word;
-use crate::wording::nine_word;
 use crate::wording::notation;
-use crate::wording::opening;
 use crate::wording::prefix_word;
-use crate::wording::sus_word;
 use answer::output::Output;
 use answer::output::give;
 use answer::refusal::Refusal;
@@ -86,9 +89,13 @@ fn put_heading(buffer: &mut [u8], at: usize, descriptor: Descriptor) -> usize
     let modifier = descriptor.modifier;
     let kind = kind_of(quality);
     let after_quality = put(buffer, at, kind.0);
-    let after_nine = put(buffer, after_quality, nine_word(descriptor.nine != 0));
+    let after_nine = put(
+        buffer,
+        after_quality,
+        either(descriptor.nine != 0, NINE, NOTHING),
+    );
     let after_modifier = put(buffer, after_nine, modifier_word(kind.1, kind.2, modifier));
-    put(buffer, after_modifier, sus_word(descriptor.sus))
+    put(buffer, after_modifier, either(descriptor.sus, SUS, NOTHING))
 }
 
 // The 9 behind the `6` keeps its place in the numbering: where it is the first, no add carries `add`.
@@ -104,7 +111,11 @@ fn put_parentheses(buffer: &mut [u8], start: usize, descriptor: Descriptor) -> u
     let after_adds = put_parts(buffer, after_alterations, start, adds ^ nine, first);
     let after_third = put_parts(buffer, after_adds, start, descriptor.third, then);
     let after_omits = put_parts(buffer, after_third, start, descriptor.omits, Prefix::Omit);
-    put(buffer, after_omits, closing(after_omits == start))
+    put(
+        buffer,
+        after_omits,
+        either(after_omits == start, NOTHING, CLOSE),
+    )
 }
 
 // Writes each interval of a set as a part of the parentheses, which begin at `start`: a part there opens them.
@@ -129,7 +140,7 @@ fn put_part(buffer: &mut [u8], at: usize, start: usize, number: u32, prefix: Pre
     requires { ⌜ at + length (part (eqb at start) prefix (numbered number)) + 8 ≤ length (now buffer) ⌝ }
     ensures { λ r. ⌜ Writes (now (buffer .entry)) at (part (eqb at start) prefix (numbered number)) r (now (buffer .exit)) ⌝ }
 {
-    let after_opening = put(buffer, at, opening(at == start));
+    let after_opening = put(buffer, at, either(at == start, OPEN, COMMA));
     let after_word = put(buffer, after_opening, prefix_word(prefix));
     put(buffer, after_word, notation(Interval::from_number(number)))
 }

@@ -2,27 +2,26 @@
 use intervals::interval::Numbered;
 ghost use mathlib.Core.Path.{_≡_};
 ghost use mathlib.Core.Bool.{cond};
-ghost use mathlib.Core.List.{[]};
-ghost use Rattle.answer.specs.Words.{bytes, packed};
+ghost use Rattle.answer.specs.Words.{packed};
 ghost use Rattle.rules.specs.Heading.{orElse};
 ghost use Rattle.inference.specs.private.Prefixes.{prefixText, addWhere};
 ghost use Rattle.inference.specs.private.Described.{modifierWord};
 
-const NOTHING: u64 = 0;
+pub(crate) const NOTHING: u64 = 0;
 
-const OPEN: u64 = 0x0100000000000028; // (
+pub(crate) const OPEN: u64 = 0x0100000000000028; // (
 
-const COMMA: u64 = 0x010000000000002c; // ,
+pub(crate) const COMMA: u64 = 0x010000000000002c; // ,
 
-const CLOSE: u64 = 0x0100000000000029; // )
+pub(crate) const CLOSE: u64 = 0x0100000000000029; // )
 
-const SUS: u64 = 0x0300000000737573; // sus
+pub(crate) const SUS: u64 = 0x0300000000737573; // sus
 
 const ADD: u64 = 0x0300000000646461; // add
 
 const OMIT: u64 = 0x0400000074696d6f; // omit
 
-const NINE: u64 = 0x0100000000000039; // 9
+pub(crate) const NINE: u64 = 0x0100000000000039; // 9
 
 // What stands before the first of some parts.
 pub enum Prefix {
@@ -48,29 +47,11 @@ pub(crate) fn prefix_word(prefix: Prefix) -> u64
     }
 }
 
-// What stands before a part: the first opens the parentheses.
-pub(crate) fn opening(first: bool) -> u64
-    ensures { λ r. ⌜ r ≡ packed (cond first (bytes "(") (bytes ",")) ⌝ }
+// One word or another.
+pub(crate) fn either(first: bool, word: u64, other: u64) -> u64
+    ensures { λ r. ⌜ r ≡ cond first word other ⌝ }
 {
-    if first { OPEN } else { COMMA }
-}
-
-pub(crate) fn closing(none: bool) -> u64
-    ensures { λ r. ⌜ r ≡ packed (cond none [] (bytes ")")) ⌝ }
-{
-    if none { NOTHING } else { CLOSE }
-}
-
-pub(crate) fn sus_word(sus: bool) -> u64
-    ensures { λ r. ⌜ r ≡ packed (cond sus (bytes "sus") []) ⌝ }
-{
-    if sus { SUS } else { NOTHING }
-}
-
-pub(crate) fn nine_word(nine: bool) -> u64
-    ensures { λ r. ⌜ r ≡ packed (cond nine (bytes "9") []) ⌝ }
-{
-    if nine { NINE } else { NOTHING }
+    if first { word } else { other }
 }
 
 // A modifier where a quality shows one, or its word without one.
@@ -78,15 +59,9 @@ pub(crate) fn modifier_word(shows: bool, without: u64, modifier: Numbered) -> u6
     ensures { λ r. ⌜ r ≡ modifierWord shows without modifier ⌝ }
 {
     match modifier {
-        Numbered::Is(interval) => shown(shows, interval.to_chord_notation()),
+        Numbered::Is(interval) => either(shows, interval.to_chord_notation(), NOTHING),
         Numbered::Nothing => without,
     }
-}
-
-fn shown(shows: bool, word: u64) -> u64
-    ensures { λ r. ⌜ r ≡ cond shows word 0 ⌝ }
-{
-    if shows { word } else { NOTHING }
 }
 
 // How a chord writes an interval, where there is one.

@@ -116,7 +116,7 @@ returns c =
     let told = whole b in
     let four = then-parts (three q) (omitted b) (p .put-parts4 .ensures) (p .put-parts4 .kept .0) in
     subst (λ (x : List (List ℕ)). Writes (now (a .buffer)) (a .start) (parenthesized x) (put .put .result) (put .put .last .0)) told
-    (closed four _ _ _ (put .before .closing .ensures)
+    (closed four _ _ _ (put .before .either .ensures)
     (subst (λ (x : List (List ℕ)). a .start + length (parenthesized x) + 8 ≤ length (now (a .buffer))) (sym told) (entered b .pre .1)) (put .put .ensures))
 
 pub put-parentheses-spec : {M : Type 1} → statement M

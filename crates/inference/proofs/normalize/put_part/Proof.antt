@@ -12,7 +12,7 @@ use Rattle.intervals.specs.declared.interval.Numbered.{Numbered}
 use Rattle.rules.specs.Heading.{orElse}
 use Rattle.inference.specs.private.Prefixes.{prefixText}
 use Rattle.answer.proofs.Writing.{no-puts, then-put}
-use Rattle.inference.proofs.Texts.{opening-short, prefix-short, or-nothing-short}
+use Rattle.inference.proofs.Texts.{opening-word, prefix-short, or-nothing-short}
 use Rattle.inference.proofs.normalize.put_part.Statement.{statement}
 use Rattle.inference.proofs.normalize.put_part.Tie as tie
 
@@ -24,9 +24,10 @@ returns c =
     let s = first .before .before .before .before in
     let a = s .args in
     let room = simp length-append at (s .pre) in
+    let is-opening = opening-word (eqb (a .at) (a .start)) in
     let opened =
-    then-put (no-puts (now (a .buffer)) (a .at)) (cond (eqb (a .at) (a .start)) (bytes "(") (bytes ",")) (opening-short (eqb (a .at) (a .start)))
-    _ _ _ (first .before .opening .ensures) (omega arith) (first .put .ensures) (first .put .kept .0) in
+    then-put (no-puts (now (a .buffer)) (a .at)) (cond (eqb (a .at) (a .start)) (bytes "(") (bytes ",")) (is-opening .short)
+    _ _ _ (first .before .either .ensures ∙ is-opening .is) (omega arith) (first .put .ensures) (first .put .kept .0) in
     let worded =
     then-put opened (prefixText (a .prefix)) (prefix-short (a .prefix)) _ _ _ (second .before .prefix-word .ensures) (omega arith)
     (second .put2 .ensures) (second .put2 .kept .0) in

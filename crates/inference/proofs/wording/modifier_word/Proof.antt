@@ -15,5 +15,5 @@ modifier-word-spec =
     (λ c κs. search needs)
     (λ c. search needs)
     (λ c. let k = c .before .before in
-    rw (k .before .modifier .given .1) (c .shown .ensures ∙ ap (λ (w : ℕ). cond (k .before .before .before .args .shows) w 0) (c .before .to-chord-notation .ensures)))
+    rw (k .before .modifier .given .1) (c .either .ensures ∙ ap (λ (w : ℕ). cond (k .before .before .before .args .shows) w 0) (c .before .to-chord-notation .ensures)))
     (λ c. rw (c .enum-told .given .1)))
