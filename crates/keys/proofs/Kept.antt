@@ -1,5 +1,6 @@
 -- Offers of the intervals of a set, and the set without one.
 --     without-has    a set without a number has the others
+--     keep           the offers of the intervals of a set
 --     keep-without   so the offers that it keeps are those of other intervals
 --     keep-all       every offer of a chosen tone has one of 32 intervals
 use mathlib.Core.Path.{_≡_, refl, sym, ap, _∙_}
@@ -14,10 +15,10 @@ use Rattle.intervals.specs.Sets.{has}
 use Rattle.intervals.proofs.Members.{taken-has}
 use Rattle.pool.specs.declared.pool.Tone.{Tone}
 use Rattle.keys.specs.declared.nearest.Offer.{Offer}
-use Rattle.keys.specs.Choice.{without, chosen, others}
-use Rattle.keys.specs.Offered.{nearestOf, keep}
+use Rattle.keys.specs.Choice.{without, chosen}
+use Rattle.keys.specs.private.Ranked.{nearestOf}
 use Rattle.keys.proofs.Digit.{within}
-use Rattle.keys.proofs.Best.{near-interval}
+use Rattle.keys.proofs.Best.{near-interval, others}
 
 pub without-has : (c s k : ℕ) → has (without c s) k ≡ has s k && not (eqb k c)
 unfolding without
@@ -30,6 +31,11 @@ without-has c s k = by-case (has s c) refl
     by-case : (b : Bool) → has s c ≡ b → has (cond b (s - 2 ^ c) s) k ≡ has s k && not (eqb k c)
     by-case true e = taken-has s c e k
     by-case false e = by-same e (eqb k c) refl
+
+-- the offers of the intervals of a set
+unfoldable pub keep : ℕ → List Offer → List Offer
+keep set [] = []
+keep set (o ∷ more) = cond (has set (o .interval)) (o ∷ keep set more) (keep set more)
 
 pub keep-without : (i s : ℕ) (l : List Offer) → keep (without i s) l ≡ others i (keep s l)
 unfolding keep others

@@ -1,28 +1,28 @@
 -- Theorem on the keys of a tone.
 --     two-or-three    "two or three keys, never none": a note class has so many in the range
 use mathlib.Core.Path.{_≡_}
-use Prim.Native.Nat.{ℕ, _+_, _≤_, _<_}
-use native.Mathlib.Decide.{decLt}
-use native.Mathlib.Omega.{arith}
+use mathlib.Core.Bool.{Bool, _&&_}
+use Prim.Native.Nat.{ℕ, suc, _≤_, _<_}
+use lib.Dec.{T, leb, leb→le}
 use lib.ListN.{length}
+use Rattle.answer.proofs.Tests.{left, right, all, at}
+use Rattle.keys.specs.Range.{lowestKey, highestKey}
 use Rattle.keys.specs.Choice.{keysFrom, keysOf}
-use Rattle.keys.proofs.Climb.{passed, taken, past}
 
-module _ (class : ℕ) (h : class < 12) where
-  -- the second key is in the range, and for the lower classes a third
-  with-third : class < 8 → length (keysFrom 51 80 17 (48 + class + 12)) ≡ 2
-  with-third low =
-      rw (taken 80 16 (48 + class + 12) (omega arith) (omega arith), taken 80 15 (48 + class + 12 + 12) (omega arith) (omega arith), past 80 15 (48 + class + 12 + 12 + 12) (omega arith))
+-- how many keys of the range a class has
+abbrev pub keyCount : ℕ → ℕ
+keyCount class = length (keysOf lowestKey (suc highestKey) class)
 
-  without-third : 8 ≤ class → length (keysFrom 51 80 17 (48 + class + 12)) ≡ 1
-  without-third high = rw (taken 80 16 (48 + class + 12) (omega arith) (omega arith), past 80 16 (48 + class + 12 + 12) (omega arith))
+-- one test of the twelve classes
+isTwoOrThree : ℕ → Bool
+isTwoOrThree class = leb 2 (keyCount class) && leb (keyCount class) 3
 
-  pub two-or-three : (2 ≤ length (keysOf 51 80 class)) × (length (keysOf 51 80 class) ≤ 3)
-  unfolding keysOf
-  two-or-three = by-order (decLt class 3) (decLt class 8)
-    where
-      by-order : Dec (class < 3) → Dec (class < 8) → (2 ≤ length (keysFrom 51 80 18 (48 + class))) × (length (keysFrom 51 80 18 (48 + class)) ≤ 3)
-      by-order (yes low) third = rw (passed 80 17 (48 + class) (omega arith), with-third (omega arith)) (omega arith, omega arith)
-      by-order (no low) (yes third) = rw (taken 80 17 (48 + class) (omega arith) (omega arith), with-third third) (omega arith, omega arith)
-      by-order (no low) (no third) =
-          rw (taken 80 17 (48 + class) (omega arith) (omega arith), without-third (omega arith)) (omega arith, omega arith)
+tested : T (all isTwoOrThree 12)
+unfolding all isTwoOrThree keysFrom keysOf
+tested = tt
+
+pub two-or-three : (class : ℕ) → class < 12 → (2 ≤ keyCount class) × (keyCount class ≤ 3)
+unfolding isTwoOrThree
+two-or-three class h =
+    let t = at isTwoOrThree 12 tested class h in
+    (leb→le 2 (keyCount class) (left (leb 2 (keyCount class)) _ t), leb→le (keyCount class) 3 (right (leb 2 (keyCount class)) _ t))

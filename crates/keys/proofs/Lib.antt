@@ -1,6 +1,7 @@
 pub mod Digit
-pub mod Best
+pub mod Winner
 pub mod Climb
+pub mod Best
 pub mod Kept
 pub mod Laws
 pub mod Determined

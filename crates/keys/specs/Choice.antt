@@ -2,12 +2,12 @@
 -- key: the lead by the one wanted, guides ("lowest first") by 0, tensions ("highest first", below the lead) by the lead.
 use mathlib.Core.Bool.{cond, _&&_, _||_}
 use mathlib.Core.List.{List, [], _∷_, _++_, map}
+use mathlib.Core.Option.{Option, none, some, Option·elim}
 use Prim.Native.Nat.{ℕ, zero, suc, _+_, _-_, _^_}
 use lib.Dec.{eqb, leb, ltb}
 use lib.ListN.{length}
 use Rattle.intervals.specs.Sets.{has}
 use Rattle.pool.specs.declared.pool.Tone.{Tone}
-use Rattle.keys.specs.declared.nearest.Offer.{Offer}
 
 -- of so many keys from one on, up by twelves, those that are not below a lowest key and below a limit
 unfoldable pub keysFrom : ℕ → ℕ → ℕ → ℕ → List ℕ
@@ -15,45 +15,43 @@ keysFrom lowest limit zero key = []
 keysFrom lowest limit (suc n) key =
     let higher = keysFrom lowest limit n (key + 12) in cond (leb lowest key && ltb key limit) (key ∷ higher) higher
 
--- a tone's keys: "48 + class, up by twelves, kept within" a range from a lowest key on and below a limit. Eighteen steps reach past every byte
+-- a class's keys: "48 + class, up by twelves, kept within" a range from a lowest key on and below a limit. Eighteen steps reach past every byte
 unfoldable pub keysOf : ℕ → ℕ → ℕ → List ℕ
 keysOf lowest limit class = keysFrom lowest limit 18 (48 + class)
+
+-- a key of a tone, and the tone's interval
+pub record ToneKey : Type 0 where
+  pub key : ℕ
+  pub interval : ℕ
+
+-- a key of an interval
+abbrev pub toneKey : ℕ → ℕ → ToneKey
+toneKey interval key = record { key = key; interval = interval }
+
+-- from a lowest key on, below a limit
+module _ (lowest limit : ℕ) where
+  -- a tone's keys
+  unfoldable pub keysOfTone : Tone → List ToneKey
+  keysOfTone t = map (toneKey (t .interval)) (keysOf lowest limit (t .class))
+
+  -- those of some tones, in the tones' order
+  unfoldable pub keysOfTones : List Tone → List ToneKey
+  keysOfTones [] = []
+  keysOfTones (t ∷ more) = keysOfTone t ++ keysOfTones more
 
 -- how far two keys are apart
 abbrev pub distance : ℕ → ℕ → ℕ
 distance a b = cond (ltb a b) (b - a) (a - b)
 
--- a key that a tone of an interval offers, ranked by its distance from the one wanted
-abbrev pub offer : ℕ → ℕ → ℕ → Offer
-offer wanted interval key = record { rank = distance wanted key; key = key; interval = interval }
+-- a key, unless a later one is nearer to the wanted: "earliest on a tie"
+abbrev pub unlessNearer : ℕ → ToneKey → Option ToneKey → ToneKey
+unlessNearer wanted k none = k
+unlessNearer wanted k (some later) = cond (ltb (distance wanted (later .key)) (distance wanted (k .key))) later k
 
--- no offer yet, as 001 begins each search: rank 255 and key 0
-abbrev pub nothing : ℕ → Offer
-nothing interval = record { rank = 255; key = 0; interval = interval }
-
--- the second of two offers where it ranks less, else the first
-abbrev pub sooner : Offer → Offer → Offer
-sooner o p = cond (ltb (p .rank) (o .rank)) p o
-
--- the offer of least rank, "earliest on a tie", or what there was before
-unfoldable pub best : Offer → List Offer → Offer
-best o [] = o
-best o (p ∷ more) = best (sooner o p) more
-
--- from a lowest key on, below a limit, by nearness to a wanted key
-module _ (lowest limit wanted : ℕ) where
-  -- what a tone offers: each of its keys, ranked by its distance from a wanted key
-  unfoldable pub offersOf : Tone → List Offer
-  offersOf t = map (offer wanted (t .interval)) (keysOf lowest limit (t .class))
-
-  -- what some tones offer, in their order
-  unfoldable pub offers : List Tone → List Offer
-  offers [] = []
-  offers (t ∷ more) = offersOf t ++ offers more
-
-  -- the best of that, or nothing
-  unfoldable pub bestOf : List Tone → Offer
-  bestOf tones = best (nothing 0) (offers tones)
+-- "The nearest key .. wins"; of no keys, none
+unfoldable pub nearest : ℕ → List ToneKey → Option ToneKey
+nearest wanted [] = none
+nearest wanted (k ∷ more) = some (unlessNearer wanted k (nearest wanted more))
 
 -- a set of intervals without one
 unfoldable pub without : ℕ → ℕ → ℕ
@@ -65,18 +63,19 @@ chosen whole once [] = []
 chosen whole once (t ∷ more) =
     cond (has whole (t .interval) || has once (t .interval)) (t ∷ chosen whole (without (t .interval) once) more) (chosen whole once more)
 
--- the offers of other intervals: "a placed interval leaves with all its duplicates"
-unfoldable pub others : ℕ → List Offer → List Offer
-others i [] = []
-others i (o ∷ more) = cond (eqb (o .interval) i) (others i more) (o ∷ others i more)
+-- the tones of other intervals: "a placed interval leaves with all its duplicates"
+unfoldable pub otherTones : ℕ → List Tone → List Tone
+otherTones i [] = []
+otherTones i (t ∷ more) = cond (eqb (t .interval) i) (otherTones i more) (t ∷ otherTones i more)
 
--- the keys of some offers in so many turns, the best first
-unfoldable pub placedIn : ℕ → List Offer → List ℕ
-placedIn zero left = []
-placedIn (suc n) left =
-    let b = best (nothing 0) left in
-    cond (eqb (b .rank) 255) [] (b .key ∷ placedIn n (others (b .interval) left))
+-- by nearness to a wanted key
+module _ (lowest limit wanted : ℕ) where
+  -- the keys that some tones are placed at in so many turns, the nearest first; where no tone has a key any more, no turn is left
+  unfoldable pub placedIn : ℕ → List Tone → List ℕ
+  placedIn zero tones = []
+  placedIn (suc n) tones =
+      Option·elim (nearest wanted (keysOfTones lowest limit tones)) [] (λ (k : ToneKey). k .key ∷ placedIn n (otherTones (k .interval) tones))
 
--- those of some tones, in as many turns: each takes at least a tone away
-unfoldable pub placed : ℕ → ℕ → ℕ → List Tone → List ℕ
-placed lowest limit wanted tones = placedIn (length tones) (offers lowest limit wanted tones)
+  -- in as many turns as there are tones: each takes at least one away
+  unfoldable pub placed : List Tone → List ℕ
+  placed tones = placedIn (length tones) tones

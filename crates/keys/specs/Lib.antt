@@ -1,3 +1,3 @@
 pub mod Range
 pub mod Choice
-pub mod Offered
+pub mod private

@@ -1,13 +1,11 @@
 // The key of a tone that is nearest to a wanted one.
-use crate::range::LOWEST;
 use crate::range::OCTAVE_KEY;
 use pool::pool::Tone;
 ghost use mathlib.Core.Path.{_≡_};
 ghost use mathlib.Core.Logic.{_⊎_};
 ghost use Prim.Native.Nat.{_+_, _-_, _*_, _≤_, _<_};
-ghost use Rattle.keys.specs.Range.{lowestKey};
-ghost use Rattle.keys.specs.Choice.{distance, nothing};
-ghost use Rattle.keys.specs.Offered.{firstKey, nearestOf};
+ghost use Rattle.keys.specs.Choice.{distance};
+ghost use Rattle.keys.specs.private.Ranked.{firstKey, nothing, nearestOf};
 
 // A key that a tone offers, how far it is from the one wanted, and the interval that leaves with it.
 pub struct Offer {
@@ -16,7 +14,7 @@ pub struct Offer {
     pub interval: u8,
 }
 
-// The rank of no offer: no key of the range is as far from another.
+// The rank of no offer: no key below a limit is as far from another.
 pub const NO_RANK: u8 = 255;
 
 pub fn nothing(interval: u8) -> Offer
@@ -38,15 +36,12 @@ pub fn distance(a: u8, b: u8) -> u8
     a - b
 }
 
-// The lowest key of a class in the range.
-fn first_key(class: u8) -> u32
-    ensures { λ r. ⌜ r ≡ firstKey class ⌝ }
+// The lowest key of a class that is not below the range: its own, or one as many octaves up as it takes.
+fn first_key(class: u8, lowest: u8) -> u32
+    ensures { λ r. ⌜ r ≡ firstKey lowest class ⌝ }
 {
     let key = OCTAVE_KEY + class as u32;
-    if key < LOWEST {
-        return key + 12;
-    }
-    key
+    key + (rest(lowest as u32, key) + 11) / 12 * 12
 }
 
 // How many octaves above the lowest key the nearest is: the next is nearer as long as the wanted one is beyond half the way to it. In
@@ -73,11 +68,11 @@ fn rest(number: u32, less: u32) -> u32
     number - less
 }
 
-// What a tone offers: of its keys below a limit the one nearest to the wanted.
-pub fn nearest(tone: Tone, wanted: u8, limit: u8) -> Offer
-    ensures { λ r. ⌜ r ≡ nearestOf lowestKey limit wanted tone ⌝ }
+// What a tone offers: of its keys from a lowest one on, below a limit, the one nearest to the wanted.
+pub fn nearest(tone: Tone, wanted: u8, lowest: u8, limit: u8) -> Offer
+    ensures { λ r. ⌜ r ≡ nearestOf lowest limit wanted tone ⌝ }
 {
-    let first = first_key(tone.class);
+    let first = first_key(tone.class, lowest);
     if first >= limit as u32 {
         return nothing(tone.interval);
     }

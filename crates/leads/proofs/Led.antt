@@ -10,7 +10,7 @@ use native.Mathlib.Nat.{le-trans}
 use native.Mathlib.Omega.{arith}
 use lib.ListN.{length}
 use Rattle.pool.specs.declared.pool.Tone.{Tone}
-use Rattle.pool.specs.Pool.{poolOf, tonesIn, IsPool}
+use Rattle.pool.specs.private.Places.{poolOf, tonesIn, IsPool}
 use Rattle.pool.proofs.Pooled.{laid-is, laid-tones, pool-is}
 use Rattle.leads.specs.Lead.{owns, isOwned, withoutLast, leadOf, ledOf}
 

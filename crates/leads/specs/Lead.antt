@@ -6,7 +6,7 @@ use lib.Dec.{eqb}
 use Rattle.intervals.specs.Sets.{isIn}
 use Rattle.intervals.specs.Intervals.{intervals, setOf}
 use Rattle.pool.specs.declared.pool.Tone.{Tone}
-use Rattle.pool.specs.Pool.{laidOver, poolOf}
+use Rattle.pool.specs.private.Places.{laidOver, poolOf}
 use Rattle.keys.specs.Choice.{distance, keysOf, bestOf, chosen, without}
 use Rattle.leads.specs.declared.lead.Led.{Led}
 

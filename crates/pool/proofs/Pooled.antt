@@ -18,8 +18,9 @@ use lib.Seq.{take-at, drop-at, take-all, length-take-le}
 use borrow.Author.Tests.{le-leb}
 use Rattle.pool.specs.declared.pool.Tone.{Tone}
 use Rattle.pool.specs.declared.pool.Pool.{Pool}
-use Rattle.pool.specs.Pool.{toneOf, tonesOf, blank, blanks, laidOver, poolOf, tonesIn, IsPool}
-use Rattle.pool.specs.Order.{sorted, takesPart, orderedIn}
+use Rattle.pool.specs.Pool.{toneOf, tonesOf}
+use Rattle.pool.specs.private.Places.{blank, blanks, laidOver, poolOf, tonesIn, IsPool, takesPart, orderedIn}
+use Rattle.pool.specs.Order.{sorted}
 use Rattle.pool.proofs.Sorted.{sorted-length}
 
 -- so many of a list as its first n are

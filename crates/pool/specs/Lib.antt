@@ -1,2 +1,3 @@
 pub mod Pool
 pub mod Order
+pub mod private

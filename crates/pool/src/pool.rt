@@ -5,7 +5,8 @@ ghost use mathlib.Core.Path.{_≡_};
 ghost use mathlib.Core.List.{_++_};
 ghost use Prim.Native.Nat.{_≤_};
 ghost use lib.ListN.{length, take, drop};
-ghost use Rattle.pool.specs.Pool.{baseOf, toneOf, tonesOf, blanks, poolOf};
+ghost use Rattle.pool.specs.Pool.{baseOf, toneOf, tonesOf};
+ghost use Rattle.pool.specs.private.Places.{blanks, poolOf};
 
 // A tone of a chord: its interval's semitones in one octave, its class, and its interval's number.
 pub struct Tone {

@@ -29,7 +29,7 @@ ghost use lib.ListN.{length};
 ghost use Rattle.answer.specs.Written.{Writes};
 ghost use Rattle.intervals.specs.Intervals.{setOf};
 ghost use Rattle.keys.specs.Range.{lowestKey, highestKey};
-ghost use Rattle.pool.specs.Pool.{tonesIn, IsPool};
+ghost use Rattle.pool.specs.private.Places.{tonesIn, IsPool};
 ghost use Rattle.voicings.specs.Guides.{holdsAny, sixths, sevenths, guideOnce, tensionOnce, guideKeys, tensionKeys};
 
 const GUIDES: u32 = MINOR_THIRD

@@ -18,7 +18,8 @@ ghost use lib.ListN.{length, take};
 ghost use Rattle.answer.specs.Replies.{Answered};
 ghost use Rattle.answer.specs.Written.{Writes};
 ghost use Rattle.keys.specs.Range.{lowestKey, highestKey};
-ghost use Rattle.pool.specs.Pool.{tonesIn, tonesOf, IsPool};
+ghost use Rattle.pool.specs.Pool.{tonesOf};
+ghost use Rattle.pool.specs.private.Places.{tonesIn, IsPool};
 ghost use Rattle.voicings.specs.Voicing.{wantedOf, bassKeys, aboveBass, isBass, arePairs, voicingReply};
 
 pub enum Bass {

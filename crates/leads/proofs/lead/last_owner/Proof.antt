@@ -6,7 +6,7 @@ use native.Mathlib.Omega.{arith}
 use lib.Seq.{slice, length-take-le}
 use borrow.Author.Needs.{needs}
 use Rattle.pool.specs.declared.pool.Tone.{Tone}
-use Rattle.pool.specs.Pool.{tonesIn}
+use Rattle.pool.specs.private.Places.{tonesIn}
 use Rattle.leads.specs.Lead.{owns, isOwned}
 use Rattle.pool.proofs.Left.{next, none}
 use Rattle.leads.proofs.Removed.{past, last-gone, none-gone}

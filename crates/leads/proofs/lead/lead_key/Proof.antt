@@ -14,13 +14,12 @@ use borrow.Author.Needs.{needs}
 use Rattle.intervals.specs.Sets.{has}
 use Rattle.pool.specs.declared.pool.Tone.{Tone}
 use Rattle.keys.specs.declared.nearest.Offer.{Offer}
-use Rattle.pool.specs.Pool.{tonesIn}
+use Rattle.pool.specs.private.Places.{tonesIn, blank}
 use Rattle.keys.specs.Choice.{nothing, best, without, chosen, bestOf}
 use Rattle.keys.specs.Offered.{nearestOf}
 use Rattle.leads.specs.Lead.{leadOf}
 use Rattle.keys.proofs.Best.{nearer}
 use Rattle.pool.proofs.Left.{next, none}
-use Rattle.pool.specs.Pool.{blank}
 use Rattle.leads.proofs.lead.lead_key.Statement.{statement}
 use Rattle.leads.proofs.lead.lead_key.Tie as tie
 

@@ -2,7 +2,7 @@
 use mathlib.Core.Path.{ap, _∙_}
 use mathlib.Core.List.{List}
 use Rattle.pool.specs.declared.pool.Tone.{Tone}
-use Rattle.pool.specs.Pool.{laidOver}
+use Rattle.pool.specs.private.Places.{laidOver}
 use Rattle.leads.proofs.lead.leave.Statement.{statement}
 use Rattle.leads.proofs.lead.leave.Tie as tie
 

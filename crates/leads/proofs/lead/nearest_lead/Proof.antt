@@ -7,7 +7,8 @@ use denote.Ref.{now}
 use borrow.Author.Needs.{needs}
 use Rattle.pool.specs.declared.pool.Tone.{Tone}
 use Rattle.pool.specs.declared.pool.Pool.{Pool}
-use Rattle.pool.specs.Pool.{tonesOf, laidOver, poolOf, tonesIn, IsPool}
+use Rattle.pool.specs.Pool.{tonesOf}
+use Rattle.pool.specs.private.Places.{laidOver, poolOf, tonesIn, IsPool}
 use Rattle.pool.specs.Order.{sorted}
 use Rattle.pool.proofs.Pooled.{pool-is, ordered-tones}
 use Rattle.leads.specs.declared.lead.Led.{Led}

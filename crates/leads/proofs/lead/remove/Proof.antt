@@ -8,7 +8,7 @@ use lib.ListN.{length, take, drop, getD, set, length-set, take-append-drop}
 use lib.Seq.{slice, length-take-le, drop-set-lt, drop-drop}
 use Rattle.pool.specs.declared.pool.Tone.{Tone}
 use Rattle.pool.specs.declared.pool.Pool.{Pool}
-use Rattle.pool.specs.Pool.{laidOver, tonesIn}
+use Rattle.pool.specs.private.Places.{laidOver, tonesIn}
 use Rattle.pool.proofs.Pooled.{pool-whole}
 use Rattle.leads.specs.Owners.{withoutAt}
 use Rattle.pool.proofs.Left.{next, none, pushed, behind}

@@ -8,7 +8,7 @@ use lib.ListN.{take, getD}
 use lib.Seq.{slice}
 use borrow.Author.Needs.{needs}
 use Rattle.pool.specs.declared.pool.Tone.{Tone}
-use Rattle.pool.specs.Pool.{tonesIn}
+use Rattle.pool.specs.private.Places.{tonesIn}
 use Rattle.leads.specs.Lead.{barring, unbarred}
 use Rattle.pool.proofs.Left.{next, none}
 use Rattle.leads.proofs.Ring.{every, started}

@@ -8,7 +8,8 @@ use lib.Seq.{slice, drop-drop, drop-set-lt}
 use denote.Ref.{now}
 use borrow.Author.Needs.{needs}
 use Rattle.pool.specs.declared.pool.Tone.{Tone}
-use Rattle.pool.specs.Pool.{toneOf, tonesOf, blanks}
+use Rattle.pool.specs.Pool.{toneOf, tonesOf}
+use Rattle.pool.specs.private.Places.{blanks}
 use Rattle.pool.proofs.Left.{next, none, pushed}
 use Rattle.pool.proofs.pool.laid.Statement.{statement}
 use Rattle.pool.proofs.pool.laid.Tie as tie

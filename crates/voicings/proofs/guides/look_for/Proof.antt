@@ -12,7 +12,7 @@ use Rattle.intervals.specs.Intervals.{setOf}
 use Rattle.pool.specs.declared.pool.Tone.{Tone}
 use Rattle.voicings.specs.Guides.{holdsAny, sixths, sevenths}
 use Rattle.pool.proofs.Left.{next, none}
-use Rattle.pool.specs.Pool.{blank}
+use Rattle.pool.specs.private.Places.{blank}
 use Rattle.voicings.proofs.guides.look_for.Statement.{statement}
 use Rattle.voicings.proofs.guides.look_for.Tie as tie
 

@@ -8,7 +8,7 @@ use lib.Seq.{length-take-le}
 use borrow.Author.Needs.{needs}
 use Rattle.answer.proofs.Writing.{also, stored}
 use Rattle.pool.specs.declared.pool.Pool.{Pool}
-use Rattle.pool.specs.Pool.{tonesIn, IsPool}
+use Rattle.pool.specs.private.Places.{tonesIn, IsPool}
 use Rattle.voicings.specs.Voicing.{aboveBass}
 use Rattle.voicings.proofs.Few.{few-guides, few-tensions}
 use Rattle.voicings.proofs.voicing.put_above.Statement.{statement}

@@ -15,7 +15,8 @@ use Rattle.answer.proofs.Rooms.{refused-by}
 use Rattle.answer.proofs.Tests.{left, right, is-true, said, refused, admitted}
 use Rattle.answer.proofs.Writing.{also, same-text, counted, within}
 use Rattle.pool.specs.declared.pool.Tone.{Tone}
-use Rattle.pool.specs.Pool.{tonesOf, tonesIn, IsPool}
+use Rattle.pool.specs.Pool.{tonesOf}
+use Rattle.pool.specs.private.Places.{tonesIn, IsPool}
 use Rattle.pool.specs.Order.{sorted}
 use Rattle.leads.specs.declared.lead.Led.{Led}
 use Rattle.leads.specs.Lead.{leadOf, ledOf}

@@ -1,0 +1,140 @@
+-- Laws of the nearest key.
+--     earlier, joins    of two the later where it ranks less, else the earlier; of three, whichever two are joined first
+--     nearest-append    the nearest of two lists is that of their nearest
+--     is-one            the nearest of some keys is one of them
+--     FromTone, from-tones    a key of some tones is a tone's: within the range, and some octaves above its class's own
+use mathlib.Core.Path.{_≡_, refl, sym, ap, subst, _∙_}
+use mathlib.Core.Bool.{Bool, true, false, cond, _&&_}
+use mathlib.Core.List.{List, [], _∷_, _++_, List·Memᴰ, List·Memᴰ·head, List·Memᴰ·tail, List·Memᴰ·not-nil, List·Memᴰ·cases-cons, List·Memᴰ·append-cases, Memᴰ·of-map}
+use mathlib.Core.Logic.{⊎-elim}
+use mathlib.Core.Option.{Option, none, some}
+use Prim.Native.Nat.{ℕ, zero, suc, _+_, _%_, _≤_, _<_}
+use native.Mathlib.Decide.{decLt}
+use native.Mathlib.Omega.{arith}
+use lib.Dec.{leb, ltb, leb→le, ltb→lt}
+use borrow.Author.Tests.{lt-ltb, le-ltb}
+use Rattle.answer.proofs.Tests.{left, right, said}
+use Rattle.pool.specs.declared.pool.Tone.{Tone}
+use Rattle.keys.specs.Choice.{keysFrom, keysOf, distance, ToneKey, toneKey, keysOfTone, keysOfTones, unlessNearer, nearest}
+
+module _ {A : Type 0} (rank : A → ℕ) where
+  abbrev pub earlier : A → A → A
+  earlier a b = cond (ltb (rank b) (rank a)) b a
+
+  pub first : (a b : A) → rank a ≤ rank b → earlier a b ≡ a
+  first a b h = rw (le-ltb (rank b) (rank a) h)
+
+  pub second : (a b : A) → rank b < rank a → earlier a b ≡ b
+  second a b h = rw (lt-ltb (rank b) (rank a) h)
+
+  pub joins : (a b c : A) → earlier (earlier a b) c ≡ earlier a (earlier b c)
+  joins a b c = by-order (decLt (rank b) (rank a)) (decLt (rank c) (rank b))
+    where
+      by-order : Dec (rank b < rank a) → Dec (rank c < rank b) → earlier (earlier a b) c ≡ earlier a (earlier b c)
+      by-order (yes h) (yes k) =
+          let less : rank c < rank a = omega arith in
+          ap (λ (x : A). earlier x c) (second a b h) ∙ second b c k ∙ sym (ap (earlier a) (second b c k) ∙ second a c less)
+      by-order (yes h) (no k) =
+          let more : rank b ≤ rank c = omega arith in
+          ap (λ (x : A). earlier x c) (second a b h) ∙ sym (ap (earlier a) (first b c more) ∙ second a b h ∙ sym (first b c more))
+      by-order (no h) (yes k) =
+          let more : rank a ≤ rank b = omega arith in
+          ap (λ (x : A). earlier x c) (first a b more) ∙ sym (ap (earlier a) (second b c k))
+      by-order (no h) (no k) =
+          let more : rank a ≤ rank b = omega arith in
+          let most : rank b ≤ rank c = omega arith in
+          let last : rank a ≤ rank c = omega arith in
+          ap (λ (x : A). earlier x c) (first a b more) ∙ first a c last ∙ sym (ap (earlier a) (first b c most) ∙ first a b more)
+
+module _ (wanted : ℕ) where
+  pub unless-joins : (a b : ToneKey) (later : Option ToneKey)
+      → unlessNearer wanted a (some (unlessNearer wanted b later)) ≡ unlessNearer wanted (unlessNearer wanted a (some b)) later
+  unless-joins a b none = refl
+  unless-joins a b (some c) = sym (joins (λ (k : ToneKey). distance wanted (k .key)) a b c)
+
+  -- a nearest key, and that of what stands behind it
+  abbrev pub before : Option ToneKey → Option ToneKey → Option ToneKey
+  before none later = later
+  before (some k) later = some (unlessNearer wanted k later)
+
+  pub nearest-append : (l m : List ToneKey) → nearest wanted (l ++ m) ≡ before (nearest wanted l) (nearest wanted m)
+  unfolding nearest
+  nearest-append [] m = refl
+  nearest-append (k ∷ l) m =
+      ap (λ (o : Option ToneKey). some (unlessNearer wanted k o)) (nearest-append l m) ∙ by-case (nearest wanted l)
+    where
+      by-case : (o : Option ToneKey) → some (unlessNearer wanted k (before o (nearest wanted m))) ≡ some (unlessNearer wanted (unlessNearer wanted k o) (nearest wanted m))
+      by-case none = refl
+      by-case (some a) = ap (λ (x : ToneKey). some x) (unless-joins k a (nearest wanted m))
+
+  -- none, or one of a list
+  abbrev pub IsOne : List ToneKey → Option ToneKey → Type 0
+  IsOne l none = Unit {0}
+  IsOne l (some k) = List·Memᴰ k l
+
+  pub is-one : (l : List ToneKey) → IsOne l (nearest wanted l)
+  unfolding nearest
+  is-one [] = tt
+  is-one (k ∷ l) = by-case (nearest wanted l) (is-one l)
+    where
+      by-test : (later : ToneKey) → List·Memᴰ later l → (b : Bool) → List·Memᴰ (cond b later k) (k ∷ l)
+      by-test later m true = List·Memᴰ·tail m
+      by-test later m false = List·Memᴰ·head refl
+
+      by-case : (o : Option ToneKey) → IsOne l o → List·Memᴰ (unlessNearer wanted k o) (k ∷ l)
+      by-case none m = List·Memᴰ·head refl
+      by-case (some later) m = by-test later m (ltb (distance wanted (later .key)) (distance wanted (k .key)))
+
+module _ (lowest limit : ℕ) where
+  -- a key of a class: within the range, and not below the class's own, from which it is some octaves
+  pub record IsKey (class key : ℕ) : Type 0 where
+    pub low : lowest ≤ key
+    pub high : key < limit
+    pub own : 48 + class ≤ key
+    pub octaves : key % 12 ≡ class % 12
+
+  is-from : (n from key : ℕ) → List·Memᴰ key (keysFrom lowest limit n from) → (lowest ≤ key) × (key < limit) × (from ≤ key) × (key % 12 ≡ from % 12)
+  unfolding keysFrom
+  is-from zero from key m = absurd (List·Memᴰ·not-nil m)
+  is-from (suc n) from key m =
+      by-test (leb lowest from && ltb from limit) refl (λ later. let up = is-from n (from + 12) key later in (up .0, up .1, omega arith, omega arith)) m
+    where
+      by-test : (b : Bool) → leb lowest from && ltb from limit ≡ b
+          → (List·Memᴰ key (keysFrom lowest limit n (from + 12)) → (lowest ≤ key) × (key < limit) × (from ≤ key) × (key % 12 ≡ from % 12))
+          → List·Memᴰ key (cond b (from ∷ keysFrom lowest limit n (from + 12)) (keysFrom lowest limit n (from + 12)))
+          → (lowest ≤ key) × (key < limit) × (from ≤ key) × (key % 12 ≡ from % 12)
+      by-test true e higher m =
+          let fits = said (leb lowest from && ltb from limit) e in
+          let low = leb→le lowest from (left (leb lowest from) (ltb from limit) fits) in
+          let high = ltb→lt from limit (right (leb lowest from) (ltb from limit) fits) in
+          ⊎-elim (λ (same : key ≡ from). (omega arith, omega arith, omega arith, ap (λ (k : ℕ). k % 12) same)) higher (List·Memᴰ·cases-cons m)
+      by-test false e higher m = higher m
+
+  pub is-key : (class key : ℕ) → List·Memᴰ key (keysOf lowest limit class) → IsKey class key
+  unfolding keysOf
+  is-key class key m = let from = is-from 18 (48 + class) key m in record { low = from .0; high = from .1; own = from .2; octaves = omega (arith, from .3) }
+
+  -- a tone of a list, of which it is a key
+  pub record FromTone (tones : List Tone) (k : ToneKey) : Type 0 where
+    pub tone : Tone
+    pub among : List·Memᴰ tone tones
+    pub interval-is : tone .interval ≡ k .interval
+    pub key-is : IsKey (tone .class) (k .key)
+
+  pub from-tones : (tones : List Tone) (k : ToneKey) → List·Memᴰ k (keysOfTones lowest limit tones) → FromTone tones k
+  unfolding keysOfTone keysOfTones
+  from-tones [] k m = absurd (List·Memᴰ·not-nil m)
+  from-tones (t ∷ l) k m = ⊎-elim own (λ later. behind (from-tones l k later)) (List·Memᴰ·append-cases (keysOfTone lowest limit t) m)
+    where
+      own : List·Memᴰ k (keysOfTone lowest limit t) → FromTone (t ∷ l) k
+      own m =
+          let one = Memᴰ·of-map (toneKey (t .interval)) (keysOf lowest limit (t .class)) m in
+          record {
+            tone = t;
+            among = List·Memᴰ·head refl;
+            interval-is = ap (λ (x : ToneKey). x .interval) (one .2);
+            key-is = subst (λ (x : ToneKey). IsKey (t .class) (x .key)) (one .2) (is-key (t .class) (one .0) (one .1));
+          }
+
+      behind : FromTone l k → FromTone (t ∷ l) k
+      behind there = record { tone = there .tone; among = List·Memᴰ·tail (there .among); interval-is = there .interval-is; key-is = there .key-is }
