@@ -8,17 +8,9 @@ use Prim.Native.Nat.{ℕ, zero, suc, _+_, _-_, _*_, _%_, _≤_, _<_}
 use native.Mathlib.Decide.{decLt}
 use native.Mathlib.Omega.{arith}
 use lib.Dec.{eqb, leb, ltb}
-use borrow.Author.Tests.{eq-eqb, ne-eqb, lt-ltb, le-ltb, lt-leb, le-leb}
+use borrow.Author.Tests.{eq-eqb, ne-eqb}
 use Rattle.intervals.specs.Sets.{isIn}
 use Rattle.keys.specs.Choice.{keysFrom}
-
--- two ways to say that a key is within a range
-pub up-to : (k n : ℕ) → ltb k (suc n) ≡ leb k n
-up-to k n = by-order (decLt n k)
-  where
-    by-order : Dec (n < k) → ltb k (suc n) ≡ leb k n
-    by-order (yes h) = le-ltb k (suc n) h ∙ sym (lt-leb k n h)
-    by-order (no h) = let most : k ≤ n = omega arith in lt-ltb k (suc n) (omega arith) ∙ sym (le-leb k n most)
 
 module _ (lowest limit k : ℕ) where
   abbrev fits : ℕ → Bool

@@ -13,8 +13,9 @@ use lib.ListN.{length, take, drop, getD}
 use lib.Seq.{slice, getD-take, length-take-le}
 use Rattle.answer.proofs.Tests.{said}
 use Rattle.pool.specs.declared.pool.Tone.{Tone}
-use Rattle.leads.specs.Lead.{owns, isOwned, withoutLast}
-use Rattle.leads.specs.Owners.{withoutAt}
+use Rattle.pool.specs.Pool.{anyTone}
+use Rattle.leads.specs.Lead.{owns, withoutLast}
+use Rattle.leads.specs.private.Leaves.{withoutAt}
 
 split-at-suc : (l : List Tone) (i n : ℕ) → i < n → take i l ++ slice (suc i) n l ≡ withoutAt i (take n l)
 unfolding withoutAt
@@ -45,27 +46,27 @@ not-right : (a b : Bool) → a || b ≡ false → b ≡ false
 not-right true b e = absurd (said false (sym e))
 not-right false b e = e
 
-module _ (lowest highest key : ℕ) where
-  owned-at : (d : Tone) (l : List Tone) (i : ℕ) → i < length l → owns lowest highest key (getD l i d) ≡ true → isOwned lowest highest key l ≡ true
-  unfolding isOwned
+module _ (lowest limit key : ℕ) where
+  owned-at : (d : Tone) (l : List Tone) (i : ℕ) → i < length l → owns lowest limit key (getD l i d) ≡ true → anyTone (owns lowest limit key) l ≡ true
+  unfolding anyTone
   owned-at d [] i h e = absurd (not-suc-le-zero h)
   owned-at d (t ∷ l) zero h e = rw e
-  owned-at d (t ∷ l) (suc i) h e = or-right (owns lowest highest key t) _ (owned-at d l i (le-of-suc-le-suc h) e)
+  owned-at d (t ∷ l) (suc i) h e = or-right (owns lowest limit key t) _ (owned-at d l i (le-of-suc-le-suc h) e)
 
-  last-at : (d : Tone) (l : List Tone) (i : ℕ) → i < length l → owns lowest highest key (getD l i d) ≡ true
-      → isOwned lowest highest key (drop (suc i) l) ≡ false → withoutAt i l ≡ withoutLast lowest highest key l
+  last-at : (d : Tone) (l : List Tone) (i : ℕ) → i < length l → owns lowest limit key (getD l i d) ≡ true
+      → anyTone (owns lowest limit key) (drop (suc i) l) ≡ false → withoutAt i l ≡ withoutLast lowest limit key l
   unfolding withoutAt withoutLast
   last-at d [] i h e rest = absurd (not-suc-le-zero h)
   last-at d (t ∷ l) zero h e rest = rw (rest, e)
   last-at d (t ∷ l) (suc i) h e rest =
       rw (owned-at d l i (le-of-suc-le-suc h) e) (ap (λ (x : List Tone). t ∷ x) (last-at d l i (le-of-suc-le-suc h) e rest))
 
-  pub last-gone : (d : Tone) (l : List Tone) (i n : ℕ) → i < n → n ≤ length l → owns lowest highest key (getD l i d) ≡ true
-      → isOwned lowest highest key (slice (i + 1) n l) ≡ false → withoutAt i (take n l) ≡ withoutLast lowest highest key (take n l)
+  pub last-gone : (d : Tone) (l : List Tone) (i n : ℕ) → i < n → n ≤ length l → owns lowest limit key (getD l i d) ≡ true
+      → anyTone (owns lowest limit key) (slice (i + 1) n l) ≡ false → withoutAt i (take n l) ≡ withoutLast lowest limit key (take n l)
   last-gone d l i n h k e rest =
-      last-at d (take n l) i (rw (length-take-le n l k) h) (ap (owns lowest highest key) (getD-take n l i d h) ∙ e) (rw add-one at rest)
+      last-at d (take n l) i (rw (length-take-le n l k) h) (ap (owns lowest limit key) (getD-take n l i d h) ∙ e) (rw add-one at rest)
 
-  pub none-gone : (l : List Tone) → isOwned lowest highest key l ≡ false → withoutLast lowest highest key l ≡ l
-  unfolding isOwned withoutLast
+  pub none-gone : (l : List Tone) → anyTone (owns lowest limit key) l ≡ false → withoutLast lowest limit key l ≡ l
+  unfolding anyTone withoutLast
   none-gone [] e = refl
-  none-gone (t ∷ l) e = rw (not-right (owns lowest highest key t) _ e, not-left (owns lowest highest key t) _ e)
+  none-gone (t ∷ l) e = rw (not-right (owns lowest limit key t) _ e, not-left (owns lowest limit key t) _ e)

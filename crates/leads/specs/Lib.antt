@@ -1,2 +1,2 @@
 pub mod Lead
-pub mod Owners
+pub mod private

@@ -3,9 +3,6 @@ use keys::bits::in_set;
 use keys::nearest::distance;
 use keys::nearest::nearest;
 use keys::nearest::nothing;
-use keys::range::HIGHEST;
-use keys::range::LIMIT;
-use keys::range::LOWEST;
 use keys::range::OCTAVE_KEY;
 use pool::order::ordered_pool;
 use pool::pool::Pool;
@@ -14,18 +11,17 @@ ghost use mathlib.Core.Path.{_≡_};
 ghost use mathlib.Core.Bool.{cond};
 ghost use Prim.Native.Nat.{_≤_};
 ghost use lib.ListN.{take};
-ghost use Rattle.keys.specs.Range.{lowestKey, highestKey};
 ghost use Rattle.pool.specs.Pool.{tonesOf};
 ghost use Rattle.pool.specs.private.Places.{laidOver, tonesIn, IsPool};
 ghost use Rattle.pool.specs.Order.{sorted};
 ghost use Rattle.keys.specs.Choice.{without};
-ghost use Rattle.leads.specs.Lead.{rubs, unbarred, owns, withoutLast, leadOf, ledOf};
-ghost use Rattle.leads.specs.Owners.{withoutAt};
+ghost use Rattle.leads.specs.Lead.{rubs, unbarred, owns, withoutLast, leadOf};
+ghost use Rattle.leads.specs.private.Leaves.{withoutAt, ledOf};
 
-// The lead, and what is left of the pool once it has left.
+// What is left of the pool once the lead has left, and the lead. The pool comes first, where a copy of it is aligned.
 pub struct Led {
-    pub key: u8,
     pub left: Pool,
+    pub key: u8,
 }
 
 // Every interval, as a set.
@@ -68,17 +64,17 @@ fn unbarred(pool: Pool) -> u32
     free
 }
 
-// The lead: the nearest key of an unbarred tone, or 0 where every tone is barred.
-fn lead_key(pool: Pool, wanted: u8) -> u8
+// The lead: the nearest key of an unbarred tone, or 0 where none has a key.
+fn lead_key(pool: Pool, wanted: u8, lowest: u8, limit: u8) -> u8
     requires { ⌜ IsPool pool ⌝ }
-    ensures { λ r. ⌜ r ≡ leadOf lowestKey highestKey wanted (tonesIn pool) ⌝ }
+    ensures { λ r. ⌜ r ≡ leadOf lowest limit wanted (tonesIn pool) ⌝ }
 {
     let free = unbarred(pool);
     let mut found = nothing(0);
     let mut i = 0;
     while i < pool.count {
         let tone = pool.tones[i];
-        let offer = nearest(tone, wanted, LIMIT);
+        let offer = nearest(tone, wanted, lowest, limit);
         if (offer.rank < found.rank) & in_set(free, tone.interval) {
             found = offer;
         }
@@ -87,27 +83,27 @@ fn lead_key(pool: Pool, wanted: u8) -> u8
     found.key
 }
 
-fn owns(tone: Tone, key: u8) -> bool
-    ensures { λ r. ⌜ r ≡ owns lowestKey highestKey key tone ⌝ }
+fn owns(tone: Tone, key: u8, lowest: u8, limit: u8) -> bool
+    ensures { λ r. ⌜ r ≡ owns lowest limit key tone ⌝ }
 {
     let first = OCTAVE_KEY + tone.class as u32;
     let wide = key as u32;
     if wide < first {
         return false;
     }
-    (LOWEST <= wide) & (key <= HIGHEST) & ((wide - first) % 12 == 0)
+    (lowest <= key) & (key < limit) & ((wide - first) % 12 == 0)
 }
 
 // The place of the last tone that owns a key, or the count of tones where none does.
-fn last_owner(pool: Pool, key: u8) -> usize
+fn last_owner(pool: Pool, key: u8, lowest: u8, limit: u8) -> usize
     requires { ⌜ IsPool pool ⌝ }
-    ensures { λ r. ⌜ (r ≤ pool .count) × (withoutAt r (tonesIn pool) ≡ withoutLast lowestKey highestKey key (tonesIn pool)) ⌝ }
+    ensures { λ r. ⌜ (r ≤ pool .count) × (withoutAt r (tonesIn pool) ≡ withoutLast lowest limit key (tonesIn pool)) ⌝ }
 {
     let count = pool.count;
     let mut i = count;
     while 0 < i {
         i -= 1;
-        if owns(pool.tones[i], key) {
+        if owns(pool.tones[i], key, lowest, limit) {
             return i;
         }
     }
@@ -134,21 +130,22 @@ fn remove(pool: Pool, place: usize) -> Pool
 }
 
 // What is left of the pool once the lead has left it.
-fn leave(pool: Pool, lead: u8) -> Pool
+fn leave(pool: Pool, lead: u8, lowest: u8, limit: u8) -> Pool
     requires { ⌜ IsPool pool ⌝ }
-    ensures { λ r. ⌜ r ≡ laidOver (withoutLast lowestKey highestKey lead (tonesIn pool)) (pool .tones) ⌝ }
+    ensures { λ r. ⌜ r ≡ laidOver (withoutLast lowest limit lead (tonesIn pool)) (pool .tones) ⌝ }
 {
-    remove(pool, last_owner(pool, lead))
+    remove(pool, last_owner(pool, lead, lowest, limit))
 }
 
-// The lead of the pairs of a chord that is nearest to a wanted key, and the pool, in order of base, that it leaves.
-pub fn nearest_lead(classes: &[u8], intervals: &[u8], wanted: u8) -> Led
-    ensures { λ r. ⌜ r ≡ ledOf lowestKey highestKey wanted (sorted (take 16 (tonesOf (now (classes .entry)) (now (intervals .entry))))) ⌝ }
+// The lead of the pairs of a chord that is nearest to a wanted key, in the range from a lowest key on and below a limit, and the pool, in
+// order of base, that it leaves.
+pub fn nearest_lead(classes: &[u8], intervals: &[u8], wanted: u8, lowest: u8, limit: u8) -> Led
+    ensures { λ r. ⌜ r ≡ ledOf lowest limit wanted (sorted (take 16 (tonesOf (now (classes .entry)) (now (intervals .entry))))) ⌝ }
 {
     let pool = ordered_pool(classes, intervals);
-    let key = lead_key(pool, wanted);
+    let key = lead_key(pool, wanted, lowest, limit);
     Led {
+        left: leave(pool, key, lowest, limit),
         key,
-        left: leave(pool, key),
     }
 }

@@ -7,54 +7,55 @@ use lib.Seq.{slice, length-take-le}
 use borrow.Author.Needs.{needs}
 use Rattle.pool.specs.declared.pool.Tone.{Tone}
 use Rattle.pool.specs.private.Places.{tonesIn}
-use Rattle.leads.specs.Lead.{owns, isOwned}
+use Rattle.pool.specs.Pool.{anyTone}
+use Rattle.leads.specs.Lead.{owns}
 use Rattle.pool.proofs.Left.{next, none}
 use Rattle.leads.proofs.Removed.{past, last-gone, none-gone}
 use Rattle.leads.proofs.lead.last_owner.Statement.{statement}
 use Rattle.leads.proofs.lead.last_owner.Tie as tie
 
 abbrev Inv-loop : tie.InvT-loop
-Inv-loop key pool count i₀ i = (i ≤ count) × (isOwned 51 79 key (slice i count (pool .tones)) ≡ false)
+Inv-loop key lowest limit pool count i₀ i = (i ≤ count) × (anyTone (owns lowest limit key) (slice i count (pool .tones)) ≡ false)
 
 abbrev μ-loop : tie.MeasureT-loop
-μ-loop key pool count i₀ i = i
+μ-loop key lowest limit pool count i₀ i = i
 
 loop-holds : tie.Need-loop-holds Inv-loop μ-loop
-unfolding isOwned
-loop-holds c = (omega arith, ap (isOwned 51 79 (c .args .key)) (none (c .args .t1 .tones) (c .args .t1 .count) (c .args .t1 .count) (omega arith) (omega arith)))
+unfolding anyTone
+loop-holds c = (omega arith, ap (anyTone (owns (c .args .lowest) (c .args .limit) (c .args .key))) (none (c .args .t1 .tones) (c .args .t1 .count) (c .args .t1 .count) (omega arith) (omega arith)))
 
 -- none of those behind the tone that is looked at
 behind : (c : tie.After-owns Inv-loop μ-loop)
-    → isOwned 51 79 (c .before .before .before .before .args .key)
+    → anyTone (owns (c .before .before .before .before .args .lowest) (c .before .before .before .before .args .limit) (c .before .before .before .before .args .key))
     (slice (c .before .before .before .loop .i - 1 + 1) (c .before .before .before .before .args .t1 .count) (c .before .before .before .before .args .t1 .tones)) ≡ false
 behind c =
     let l = c .before .before .before in
     let s = l .before in
     let back : l .loop .i - 1 + 1 ≡ l .loop .i = let h = c .before .before .loop-test .taken in omega arith in
-    ap (λ (j : ℕ). isOwned 51 79 (s .args .key) (slice j (s .args .t1 .count) (s .args .t1 .tones))) back ∙ l .loop .inv .1
+    ap (λ (j : ℕ). anyTone (owns (s .args .lowest) (s .args .limit) (s .args .key)) (slice j (s .args .t1 .count) (s .args .t1 .tones))) back ∙ l .loop .inv .1
 
 returns : tie.Need-returns Inv-loop μ-loop
 returns c =
     let l = c .before .before .before .before in
     let s = l .before in
-    (omega arith, last-gone 51 79 (s .args .key) _ (s .args .t1 .tones) (l .loop .i - 1) (s .args .t1 .count) (omega arith) (omega arith) (sym (c .before .owns .ensures) ∙ c .if1 .taken) (behind (c .before)))
+    (omega arith, last-gone (s .args .lowest) (s .args .limit) (s .args .key) _ (s .args .t1 .tones) (l .loop .i - 1) (s .args .t1 .count) (omega arith) (omega arith) (sym (c .before .owns .ensures) ∙ c .if1 .taken) (behind (c .before)))
 
 loop-again : tie.Need-loop-again Inv-loop μ-loop
-unfolding isOwned
+unfolding anyTone
 loop-again c =
     let l = c .before .before .before .before in
     let s = l .before in
     let blank : Tone = record { base = 0; class = 0; interval = 0 } in
     let step = next (s .args .t1 .tones) (l .loop .i - 1) (s .args .t1 .count) blank (omega arith) (omega arith) in
-    (omega arith, ap (isOwned 51 79 (s .args .key)) step ∙ rw (sym (c .before .owns .ensures) ∙ c .if1 .left) (behind (c .before)))
+    (omega arith, ap (anyTone (owns (s .args .lowest) (s .args .limit) (s .args .key))) step ∙ rw (sym (c .before .owns .ensures) ∙ c .if1 .left) (behind (c .before)))
 
 returns-2 : tie.Need-returns-2 Inv-loop μ-loop
 returns-2 c =
     let s = c .before .before in
     let start : c .before .loop .i ≡ 0 = let h = c .loop-test .left in omega arith in
-    let whole = ap (λ (j : ℕ). isOwned 51 79 (s .args .key) (slice j (s .args .t1 .count) (s .args .t1 .tones))) (sym start) ∙ c .before .loop .inv .1 in
+    let whole = ap (λ (j : ℕ). anyTone (owns (s .args .lowest) (s .args .limit) (s .args .key)) (slice j (s .args .t1 .count) (s .args .t1 .tones))) (sym start) ∙ c .before .loop .inv .1 in
     let short = length-take-le (s .args .t1 .count) (s .args .t1 .tones) (omega arith) in
-    (omega arith, past (tonesIn (s .args .t1)) (s .args .t1 .count) (omega (arith, short)) ∙ sym (none-gone 51 79 (s .args .key) (tonesIn (s .args .t1)) whole))
+    (omega arith, past (tonesIn (s .args .t1)) (s .args .t1 .count) (omega (arith, short)) ∙ sym (none-gone (s .args .lowest) (s .args .limit) (s .args .key) (tonesIn (s .args .t1)) whole))
 
 pub last-owner-spec : {M : Type 1} → statement M
 last-owner-spec =

@@ -1,9 +1,10 @@
 -- `leads::lead::lead_key` meets its contract. The loop's invariant: the best of what was found and of what the tones left offer is the
 -- best of all.
-use mathlib.Core.Path.{_≡_, sym, ap, _∙_}
+use mathlib.Core.Path.{_≡_, refl, sym, ap, _∙_}
 use mathlib.Core.Bool.{Bool, true, false, cond, _&&_, or-false}
 use mathlib.Core.List.{List, _∷_, map}
 use mathlib.Core.Logic.{⊎-elim}
+use mathlib.Core.Option.{Option, none, some, Option·elim}
 use Prim.Native.Nat.{ℕ, _+_, _-_, _%_, _^_, _≤_, _<_}
 use native.Mathlib.Nat.{zero-div}
 use native.Mathlib.Omega.{arith}
@@ -15,24 +16,24 @@ use Rattle.intervals.specs.Sets.{has}
 use Rattle.pool.specs.declared.pool.Tone.{Tone}
 use Rattle.keys.specs.declared.nearest.Offer.{Offer}
 use Rattle.pool.specs.private.Places.{tonesIn, blank}
-use Rattle.keys.specs.Choice.{nothing, best, without, chosen, bestOf}
-use Rattle.keys.specs.Offered.{nearestOf}
+use Rattle.keys.specs.Choice.{ToneKey, keysOfTones, nearest, without, chosen}
+use Rattle.keys.specs.private.Ranked.{nothing, offered, nearestOf}
 use Rattle.leads.specs.Lead.{leadOf}
-use Rattle.keys.proofs.Best.{nearer}
-use Rattle.pool.proofs.Left.{next, none}
+use Rattle.keys.proofs.Best.{best, found-near}
+use Rattle.pool.proofs.Left.{next, none as no-more}
 use Rattle.leads.proofs.lead.lead_key.Statement.{statement}
 use Rattle.leads.proofs.lead.lead_key.Tie as tie
 
 -- the best of what was found and of what some tones offer, of those whose intervals are free
-abbrev bestFree : ℕ → ℕ → Offer → List Tone → Offer
-bestFree wanted free found tones = best found (map (nearestOf 51 80 wanted) (chosen free 0 tones))
+abbrev bestFree : ℕ → ℕ → ℕ → ℕ → Offer → List Tone → Offer
+bestFree lowest limit wanted free found tones = best found (map (nearestOf lowest limit wanted) (chosen free 0 tones))
 
 abbrev Inv-loop : tie.InvT-loop
-Inv-loop wanted pool free found₀ i₀ found i =
-    (i ≤ pool .count) × (bestFree wanted free found (slice i (pool .count) (pool .tones)) ≡ bestFree wanted free (nothing 0) (tonesIn pool))
+Inv-loop wanted lowest limit pool free found₀ i₀ found i =
+    (i ≤ pool .count) × (bestFree lowest limit wanted free found (slice i (pool .count) (pool .tones)) ≡ bestFree lowest limit wanted free (nothing 0) (tonesIn pool))
 
 abbrev μ-loop : tie.MeasureT-loop
-μ-loop wanted pool free found₀ i₀ found i = pool .count - i
+μ-loop wanted lowest limit pool free found₀ i₀ found i = pool .count - i
 
 -- the empty set has nothing, and nothing can be taken from it
 none-in : (k : ℕ) → has 0 k ≡ false
@@ -43,20 +44,20 @@ chosen-free : (free : ℕ) (t : Tone) (l : List Tone) → chosen free 0 (t ∷ l
 unfolding chosen without
 chosen-free free t l = rw (none-in (t .interval), or-false (has free (t .interval)))
 
-module _ (wanted free : ℕ) (tones : List Tone) (found : Offer) (i n : ℕ) (less : i < n) (fits : n ≤ length tones) where
+module _ (lowest limit wanted free : ℕ) (tones : List Tone) (found : Offer) (i n : ℕ) (less : i < n) (fits : n ≤ length tones) where
   abbrev this : Tone
   this = getD tones i blank
 
-  abbrev step : bestFree wanted free found (slice i n tones) ≡ best found (map (nearestOf 51 80 wanted) (cond (has free (this .interval)) (this ∷ chosen free 0 (slice (i + 1) n tones)) (chosen free 0 (slice (i + 1) n tones))))
-  step = ap (bestFree wanted free found) (next tones i n blank less fits) ∙ ap (λ (x : List Tone). best found (map (nearestOf 51 80 wanted) x)) (chosen-free free this (slice (i + 1) n tones))
+  abbrev step : bestFree lowest limit wanted free found (slice i n tones) ≡ best found (map (nearestOf lowest limit wanted) (cond (has free (this .interval)) (this ∷ chosen free 0 (slice (i + 1) n tones)) (chosen free 0 (slice (i + 1) n tones))))
+  step = ap (bestFree lowest limit wanted free found) (next tones i n blank less fits) ∙ ap (λ (x : List Tone). best found (map (nearestOf lowest limit wanted) x)) (chosen-free free this (slice (i + 1) n tones))
 
   -- the tone's offer is found where it ranks less and its interval is free
-  turn : (a m : Bool) → ltb (nearestOf 51 80 wanted this .rank) (found .rank) ≡ a → has free (this .interval) ≡ m
-      → bestFree wanted free (cond (a && m) (nearestOf 51 80 wanted this) found) (slice (i + 1) n tones) ≡ bestFree wanted free found (slice i n tones)
+  turn : (a m : Bool) → ltb (nearestOf lowest limit wanted this .rank) (found .rank) ≡ a → has free (this .interval) ≡ m
+      → bestFree lowest limit wanted free (cond (a && m) (nearestOf lowest limit wanted this) found) (slice (i + 1) n tones) ≡ bestFree lowest limit wanted free found (slice i n tones)
   unfolding best
-  turn true true e f = sym (step ∙ rw f (ap (λ (b : Bool). bestFree wanted free (cond b (nearestOf 51 80 wanted this) found) (slice (i + 1) n tones)) e))
+  turn true true e f = sym (step ∙ rw f (ap (λ (b : Bool). bestFree lowest limit wanted free (cond b (nearestOf lowest limit wanted this) found) (slice (i + 1) n tones)) e))
   turn true false e f = sym (step ∙ rw f)
-  turn false true e f = sym (step ∙ rw f (ap (λ (b : Bool). bestFree wanted free (cond b (nearestOf 51 80 wanted this) found) (slice (i + 1) n tones)) e))
+  turn false true e f = sym (step ∙ rw f (ap (λ (b : Bool). bestFree lowest limit wanted free (cond b (nearestOf lowest limit wanted this) found) (slice (i + 1) n tones)) e))
   turn false false e f = sym (step ∙ rw f)
 
 loop-again : tie.Need-loop-again Inv-loop μ-loop
@@ -67,25 +68,30 @@ loop-again c =
     let s = c .before .before .before .before .before .before .before .before .before .before in
     let member = c .before .in-set in
     let less = ap (λ (o : Offer). ltb (o .rank) (l .found .rank)) (near .ensures) in
-    let told = turn (s .args .wanted) free (s .args .t1 .tones) (l .found) (l .i) (s .args .t1 .count) (omega arith) (omega arith) (ltb (near .result .rank) (l .found .rank)) (member .result) (sym less) (sym (member .ensures)) in
+    let told = turn (s .args .lowest) (s .args .limit) (s .args .wanted) free (s .args .t1 .tones) (l .found) (l .i) (s .args .t1 .count) (omega arith) (omega arith) (ltb (near .result .rank) (l .found .rank)) (member .result) (sym less) (sym (member .ensures)) in
     ⊎-elim
     (λ w. (omega arith, rw (w .1 ∙ near .ensures) (rw (w .0 .taken) at told) ∙ l .inv .1))
     (λ w. (omega arith, rw (w .1) (rw (w .0 .left) at told) ∙ l .inv .1))
     (c .if1 .came)
+
+-- the key of what is found, or 0
+key-of : (wanted : ℕ) (o : Option ToneKey) → offered wanted 0 o .key ≡ Option·elim o 0 (λ (k : ToneKey). k .key)
+unfolding Option·elim
+key-of wanted none = refl
+key-of wanted (some k) = refl
 
 returns : tie.Need-returns Inv-loop μ-loop
 unfolding leadOf best chosen
 returns c =
     let l = c .before .loop in
     let u = c .before .before .before in
-    let s = u .before in
-    let tones = tonesIn (s .args .t1) in
-    let found : l .found ≡ bestFree (s .args .wanted) (u .unbarred .result) (nothing 0) tones =
-    ap (bestFree (s .args .wanted) (u .unbarred .result) (l .found)) (sym (none (s .args .t1 .tones) (l .i) (s .args .t1 .count) (l .inv .0) (c .loop-test .left)))
-    ∙ l .inv .1 in
-    ap (λ (o : Offer). o .key)
-    (found ∙ sym (nearer 51 80 (s .args .wanted) (chosen (u .unbarred .result) 0 tones))
-    ∙ ap (λ (free : ℕ). bestOf 51 80 (s .args .wanted) (chosen free 0 tones)) (u .unbarred .ensures))
+    let a = u .before .args in
+    let tones = tonesIn (a .t1) in
+    let found = bestFree (a .lowest) (a .limit) (a .wanted) (u .unbarred .result) in
+    let over = ap (found (l .found)) (sym (no-more (a .t1 .tones) (l .i) (a .t1 .count) (l .inv .0) (c .loop-test .left))) ∙ l .inv .1 in
+    ap (λ (o : Offer). o .key) (over ∙ found-near (a .lowest) (a .limit) (a .wanted) (omega arith) (omega arith) (chosen (u .unbarred .result) 0 tones))
+    ∙ key-of (a .wanted) (nearest (a .wanted) (keysOfTones (a .lowest) (a .limit) (chosen (u .unbarred .result) 0 tones)))
+    ∙ ap (λ (free : ℕ). Option·elim (nearest (a .wanted) (keysOfTones (a .lowest) (a .limit) (chosen free 0 tones))) 0 (λ (k : ToneKey). k .key)) (u .unbarred .ensures)
 
 pub lead-key-spec : {M : Type 1} → statement M
 lead-key-spec =

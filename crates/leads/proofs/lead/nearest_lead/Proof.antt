@@ -12,7 +12,8 @@ use Rattle.pool.specs.private.Places.{laidOver, poolOf, tonesIn, IsPool}
 use Rattle.pool.specs.Order.{sorted}
 use Rattle.pool.proofs.Pooled.{pool-is, ordered-tones}
 use Rattle.leads.specs.declared.lead.Led.{Led}
-use Rattle.leads.specs.Lead.{withoutLast, leadOf, ledOf}
+use Rattle.leads.specs.Lead.{withoutLast, leadOf}
+use Rattle.leads.specs.private.Leaves.{ledOf}
 use Rattle.leads.proofs.lead.nearest_lead.Statement.{statement}
 use Rattle.leads.proofs.lead.nearest_lead.Tie as tie
 
@@ -20,13 +21,13 @@ module _ (l : List Tone) (pool : Pool) (e : pool ≡ poolOf (sorted (take 16 l))
   is-pool : IsPool pool
   is-pool = subst IsPool (sym e) (pool-is (sorted (take 16 l)))
 
-  led : (key wanted : ℕ) (left : Pool) → key ≡ leadOf 51 79 wanted (tonesIn pool) → left ≡ laidOver (withoutLast 51 79 key (tonesIn pool)) (pool .tones)
-      → _≡_ {A = Led} record { key = key; left = left } (ledOf 51 79 wanted (sorted (take 16 l)))
+  led : (lowest limit key wanted : ℕ) (left : Pool) → key ≡ leadOf lowest limit wanted (tonesIn pool) → left ≡ laidOver (withoutLast lowest limit key (tonesIn pool)) (pool .tones)
+      → _≡_ {A = Led} record { left = left; key = key } (ledOf lowest limit wanted (sorted (take 16 l)))
   unfolding ledOf
-  led key wanted left k f =
+  led lowest limit key wanted left k f =
       let tones : tonesIn pool ≡ sorted (take 16 l) = ap tonesIn e ∙ ordered-tones l in
-      ap (λ (p : Pool). record { key = key; left = p }) (f ∙ ap (λ (p : Pool). laidOver (withoutLast 51 79 key (tonesIn pool)) (p .tones)) e)
-      ∙ ap₂ (λ (x : ℕ) (t : List Tone). record { key = x; left = laidOver (withoutLast 51 79 x t) (poolOf (sorted (take 16 l)) .tones) }) (k ∙ ap (leadOf 51 79 wanted) tones) tones
+      ap (λ (p : Pool). record { left = p; key = key }) (f ∙ ap (λ (p : Pool). laidOver (withoutLast lowest limit key (tonesIn pool)) (p .tones)) e)
+      ∙ ap₂ (λ (x : ℕ) (t : List Tone). record { key = x; left = laidOver (withoutLast lowest limit x t) (poolOf (sorted (take 16 l)) .tones) }) (k ∙ ap (leadOf lowest limit wanted) tones) tones
 
 abbrev pairs : tie.After-ordered-pool → List Tone
 pairs c = tonesOf (now (c .before .before .before .args .classes)) (now (c .before .before .before .args .intervals))
@@ -39,4 +40,4 @@ nearest-lead-spec =
     (λ c κs. is-pool (pairs c) _ (c .ordered-pool .ensures))
     (λ c κs. is-pool (pairs (c .before)) _ (c .before .ordered-pool .ensures))
     (λ c. let p = c .before .before in
-    led (pairs p) _ (p .ordered-pool .ensures) _ _ _ (c .before .lead-key .ensures) (c .leave .ensures)))
+    led (pairs p) _ (p .ordered-pool .ensures) _ _ _ _ _ (c .before .lead-key .ensures) (c .leave .ensures)))

@@ -10,7 +10,7 @@ use Rattle.pool.specs.declared.pool.Tone.{Tone}
 use Rattle.pool.specs.declared.pool.Pool.{Pool}
 use Rattle.pool.specs.private.Places.{laidOver, tonesIn}
 use Rattle.pool.proofs.Pooled.{pool-whole}
-use Rattle.leads.specs.Owners.{withoutAt}
+use Rattle.leads.specs.private.Leaves.{withoutAt}
 use Rattle.pool.proofs.Left.{next, none, pushed, behind}
 use Rattle.leads.proofs.Removed.{split, past}
 use Rattle.leads.proofs.lead.remove.Statement.{statement}
