@@ -1,8 +1,8 @@
 -- Guides and tensions: paper 01, "Voicing (001)" ("Guides, lowest first, ignore the lead. Tensions, highest first, stay strictly below
 -- it; both as in 001"; "All counts of the pool are taken after the lead has left").
-use mathlib.Core.Bool.{Bool, false, cond, _||_}
+use mathlib.Core.Bool.{Bool, cond}
 use mathlib.Core.List.{List, [], _∷_, _++_}
-use Prim.Native.Nat.{ℕ, suc}
+use Prim.Native.Nat.{ℕ}
 use lib.Dec.{ltb}
 use lib.ListN.{length}
 use Rattle.intervals.specs.Sets.{has}
@@ -10,12 +10,12 @@ use Rattle.intervals.specs.Intervals.{setOf}
 use Rattle.intervals.specs.declared.interval.Interval.{Interval}
 use Rattle.intervals.specs.declared.interval.Interval.the-variants.{Unison, MinorThird, MajorThird, PerfectFourth, AugmentedFourth, DiminishedFifth, PerfectFifth, AugmentedFifth, MajorSixth, DiminishedSeventh, MinorSeventh, MajorSeventh, FlatNinth, Ninth, SharpNinth, Eleventh, SharpEleventh, FlatThirteenth, Thirteenth}
 use Rattle.pool.specs.declared.pool.Tone.{Tone}
+use Rattle.pool.specs.Pool.{anyTone}
 use Rattle.keys.specs.Choice.{chosen, placed}
 
 -- the pool has a tone of one of some intervals
 unfoldable pub holdsAny : ℕ → List Tone → Bool
-holdsAny set [] = false
-holdsAny set (t ∷ more) = has set (t .interval) || holdsAny set more
+holdsAny set pool = anyTone (λ (t : Tone). has set (t .interval)) pool
 
 -- those of 001's "has sixth or dim seventh"
 unfoldable pub sixths : ℕ
@@ -48,8 +48,8 @@ tensionOnce sixth seventh count =
 
 -- the keys of the guides, lowest first: those nearest to 0
 unfoldable pub guideKeys : ℕ → ℕ → List Tone → List ℕ
-guideKeys lowest highest pool =
-    placed lowest (suc highest) 0 (chosen guides (setOf (guideOnce (holdsAny sixths pool) (holdsAny sevenths pool))) pool)
+guideKeys lowest limit pool =
+    placed lowest limit 0 (chosen guides (setOf (guideOnce (holdsAny sixths pool) (holdsAny sevenths pool))) pool)
 
 -- the keys of the tensions below a lead, highest first: those nearest to it
 unfoldable pub tensionKeys : ℕ → ℕ → List Tone → List ℕ

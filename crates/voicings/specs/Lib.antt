@@ -1,3 +1,3 @@
-pub mod Offers
 pub mod Guides
 pub mod Voicing
+pub mod private

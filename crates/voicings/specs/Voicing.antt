@@ -1,7 +1,7 @@
 -- The voicing of a chord: paper 01, "Voicing (001)" and "Numbers given back".
 use mathlib.Core.Bool.{Bool, true, cond, _&&_}
 use mathlib.Core.List.{List, [], _∷_, _++_}
-use Prim.Native.Nat.{ℕ, _+_}
+use Prim.Native.Nat.{ℕ, suc, _+_}
 use lib.Dec.{leb}
 use lib.ListN.{length}
 use Rattle.answer.specs.Replies.{Reply, refuse, text}
@@ -29,17 +29,17 @@ bassKeys root (Bass.Class bass) = (bass + 36) ∷ (root + 48) ∷ []
 
 -- guides and tensions of the pool that a lead has left, and the lead
 unfoldable pub aboveBass : ℕ → ℕ → ℕ → List Tone → List ℕ
-aboveBass lowest highest lead left = guideKeys lowest highest left ++ tensionKeys lowest lead left ++ (lead ∷ [])
+aboveBass lowest limit lead left = guideKeys lowest limit left ++ tensionKeys lowest lead left ++ (lead ∷ [])
 
 -- of the pool in order of base
 unfoldable pub above : ℕ → ℕ → ℕ → List Tone → List ℕ
-above lowest highest wanted pool =
-    let lead = leadOf lowest highest wanted pool in aboveBass lowest highest lead (withoutLast lowest highest lead pool)
+above lowest limit wanted pool =
+    let lead = leadOf lowest limit wanted pool in aboveBass lowest limit lead (withoutLast lowest limit lead pool)
 
--- "Output: .. guides; tensions; lead", the pool ordered by base
+-- "Output: .. guides; tensions; lead", the pool ordered by base and the keys "kept within" a lowest and a highest
 unfoldable pub voicingOf : ℕ → ℕ → Chord → List ℕ → List ℕ → List ℕ
 voicingOf lowest highest chord classes intervals =
-    bassKeys (chord .root) (chord .bass) ++ above lowest highest (wantedOf highest (chord .lead)) (sorted (tonesOf classes intervals))
+    bassKeys (chord .root) (chord .bass) ++ above lowest (suc highest) (wantedOf highest (chord .lead)) (sorted (tonesOf classes intervals))
 
 -- a bass class that is none refused: "bass none excepted"
 abbrev pub isBass : Bass → Bool

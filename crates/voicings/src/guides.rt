@@ -1,5 +1,4 @@
 // Guides and tensions: which tones of the pool are placed between the bass and the lead.
-use crate::offers::offered;
 use crate::offers::put_placed;
 use intervals::interval::AUGMENTED_FIFTH;
 use intervals::interval::AUGMENTED_FOURTH;
@@ -21,16 +20,16 @@ use intervals::interval::SHARP_NINTH;
 use intervals::interval::THIRTEENTH;
 use intervals::interval::UNISON;
 use keys::bits::in_set;
-use keys::range::LIMIT;
+use leads::lead::Led;
 use pool::pool::Pool;
 ghost use mathlib.Core.Path.{_≡_};
 ghost use Prim.Native.Nat.{_+_, _≤_};
 ghost use lib.ListN.{length};
 ghost use Rattle.answer.specs.Written.{Writes};
 ghost use Rattle.intervals.specs.Intervals.{setOf};
-ghost use Rattle.keys.specs.Range.{lowestKey, highestKey};
 ghost use Rattle.pool.specs.private.Places.{tonesIn, IsPool};
-ghost use Rattle.voicings.specs.Guides.{holdsAny, sixths, sevenths, guideOnce, tensionOnce, guideKeys, tensionKeys};
+ghost use Rattle.voicings.specs.Guides.{holdsAny, sixths, sevenths, guideOnce, tensionOnce};
+ghost use Rattle.voicings.specs.Voicing.{aboveBass};
 
 const GUIDES: u32 = MINOR_THIRD
     | MAJOR_THIRD
@@ -56,13 +55,13 @@ const SMALL: usize = 6;
 
 const VERY_SMALL: usize = 3;
 
-// Which sixths and sevenths a pool has: a sixth or a diminished seventh, and a minor seventh.
-pub struct Held {
+// Which sixths and sevenths are present in a pool: a sixth or a diminished seventh, and a minor seventh.
+pub struct Present {
     pub sixth: bool,
     pub seventh: bool,
 }
 
-pub(crate) fn look_for(pool: Pool) -> Held
+fn look_for(pool: Pool) -> Present
     requires { ⌜ IsPool pool ⌝ }
     ensures { λ r. ⌜ (r .sixth ≡ holdsAny sixths (tonesIn pool)) × (r .seventh ≡ holdsAny sevenths (tonesIn pool)) ⌝ }
 {
@@ -75,7 +74,7 @@ pub(crate) fn look_for(pool: Pool) -> Held
         seventh = seventh | in_set(MINOR_SEVENTH, tone.interval);
         i += 1;
     }
-    Held { sixth, seventh }
+    Present { sixth, seventh }
 }
 
 // Of which interval the first tone is a guide too: a sixth, or a major seventh, stays clear of the other sevenths.
@@ -102,26 +101,18 @@ fn tension_once(sixth: bool, seventh: bool, count: usize) -> u32
     fifths + root + clear_of_minor + clear_of_sixth
 }
 
-// Writes the guides behind a place, lowest first.
-pub(crate) fn put_guides(buffer: &mut [u8], place: usize, pool: Pool, held: Held) -> usize
-    requires { ⌜ IsPool pool × (place + 16 ≤ length (now buffer)) × (held .sixth ≡ holdsAny sixths (tonesIn pool)) × (held .seventh ≡ holdsAny sevenths (tonesIn pool)) ⌝ }
-    ensures { λ r. ⌜ Writes (now (buffer .entry)) place (guideKeys lowestKey highestKey (tonesIn pool)) r (now (buffer .exit)) ⌝ }
+// Writes what stands above the bass behind a place: guides, lowest first; tensions below the lead, highest first; the lead.
+pub(crate) fn put_above(buffer: &mut [u8], place: usize, led: Led, lowest: u8, limit: u8) -> usize
+    requires { ⌜ IsPool (led .left) × (place + 33 ≤ length (now buffer)) ⌝ }
+    ensures { λ r. ⌜ Writes (now (buffer .entry)) place (aboveBass lowest limit (led .key) (tonesIn (led .left))) r (now (buffer .exit)) ⌝ }
 {
-    let once = guide_once(held.sixth, held.seventh);
-    put_placed(buffer, place, offered(pool, GUIDES, once, 0, LIMIT))
-}
-
-// Writes the tensions below a lead behind a place, highest first.
-pub(crate) fn put_tensions(
-    buffer: &mut [u8],
-    place: usize,
-    pool: Pool,
-    held: Held,
-    lead: u8,
-) -> usize
-    requires { ⌜ IsPool pool × (place + 16 ≤ length (now buffer)) × (held .sixth ≡ holdsAny sixths (tonesIn pool)) × (held .seventh ≡ holdsAny sevenths (tonesIn pool)) ⌝ }
-    ensures { λ r. ⌜ Writes (now (buffer .entry)) place (tensionKeys lowestKey lead (tonesIn pool)) r (now (buffer .exit)) ⌝ }
-{
-    let once = tension_once(held.sixth, held.seventh, pool.count);
-    put_placed(buffer, place, offered(pool, TENSIONS, once, lead, lead))
+    let lead = led.key;
+    let left = led.left;
+    let present = look_for(left);
+    let guides = guide_once(present.sixth, present.seventh);
+    let guided = put_placed(buffer, place, left, GUIDES, guides, 0, lowest, limit);
+    let tensions = tension_once(present.sixth, present.seventh, left.count);
+    let tensed = put_placed(buffer, guided, left, TENSIONS, tensions, lead, lowest, lead);
+    buffer[tensed] = lead;
+    tensed + 1
 }

@@ -1,26 +1,23 @@
 // The voicing of a chord record: bass, guides, tensions, lead.
-use crate::guides::look_for;
-use crate::guides::put_guides;
-use crate::guides::put_tensions;
+use crate::guides::put_above;
 use answer::output::Output;
 use answer::output::give;
 use answer::refusal::Refusal;
 use intervals::set::LAST_CLASS;
 use keys::range::HIGHEST;
-use leads::lead::Led;
+use keys::range::LOWEST;
 use leads::lead::nearest_lead;
 use pool::pool::MOST;
 use pool::pool::used;
 ghost use mathlib.Core.Path.{_≡_};
 ghost use mathlib.Core.Bool.{true};
-ghost use Prim.Native.Nat.{_+_, _≤_};
+ghost use Prim.Native.Nat.{_≤_, _<_};
 ghost use lib.ListN.{length, take};
 ghost use Rattle.answer.specs.Replies.{Answered};
 ghost use Rattle.answer.specs.Written.{Writes};
 ghost use Rattle.keys.specs.Range.{lowestKey, highestKey};
 ghost use Rattle.pool.specs.Pool.{tonesOf};
-ghost use Rattle.pool.specs.private.Places.{tonesIn, IsPool};
-ghost use Rattle.voicings.specs.Voicing.{wantedOf, bassKeys, aboveBass, isBass, arePairs, voicingReply};
+ghost use Rattle.voicings.specs.Voicing.{wantedOf, bassKeys, isBass, arePairs, voicingReply};
 
 pub enum Bass {
     None,
@@ -55,11 +52,11 @@ fn is_bass(bass: Bass) -> bool
     }
 }
 
-fn wanted(lead: Lead) -> u8
-    ensures { λ r. ⌜ r ≡ wantedOf highestKey lead ⌝ }
+fn wanted(lead: Lead, highest: u8) -> u8
+    ensures { λ r. ⌜ r ≡ wantedOf highest lead ⌝ }
 {
     match lead {
-        Lead::None => HIGHEST,
+        Lead::None => highest,
         Lead::Key(key) => key,
     }
 }
@@ -99,23 +96,17 @@ fn put_bass(buffer: &mut [u8], root: u32, bass: Bass) -> usize
     }
 }
 
-// Writes what stands above the bass behind a place: guides, tensions, lead.
-fn put_above(buffer: &mut [u8], place: usize, led: Led) -> usize
-    requires { ⌜ IsPool (led .left) × (place + 33 ≤ length (now buffer)) ⌝ }
-    ensures { λ r. ⌜ Writes (now (buffer .entry)) place (aboveBass lowestKey highestKey (led .key) (tonesIn (led .left))) r (now (buffer .exit)) ⌝ }
-{
-    let lead = led.key;
-    let left = led.left;
-    let held = look_for(left);
-    let guided = put_guides(buffer, place, left, held);
-    let tensed = put_tensions(buffer, guided, left, held, lead);
-    buffer[tensed] = lead;
-    tensed + 1
-}
-
-// The voicing of a chord and its pairs, of which as many are used as the shorter range has.
-pub fn voicing(chord: Chord, classes: &[u8], intervals: &[u8], out: &mut [u8]) -> Output
-    ensures { λ r. ⌜ Answered (voicingReply lowestKey highestKey chord (now (classes .entry)) (now (intervals .entry))) (now (out .entry)) r (now (out .exit)) ⌝ }
+// The voicing of a chord and its pairs, of which as many are used as the shorter range has, with keys from a lowest to a highest.
+fn voicing_within(
+    chord: Chord,
+    lowest: u8,
+    highest: u8,
+    classes: &[u8],
+    intervals: &[u8],
+    out: &mut [u8],
+) -> Output
+    requires { ⌜ highest < 255 ⌝ }
+    ensures { λ r. ⌜ Answered (voicingReply lowest highest chord (now (classes .entry)) (now (intervals .entry))) (now (out .entry)) r (now (out .exit)) ⌝ }
 {
     let root = chord.root;
     let bass = chord.bass;
@@ -130,9 +121,17 @@ pub fn voicing(chord: Chord, classes: &[u8], intervals: &[u8], out: &mut [u8]) -
     if !are_pairs(classes, intervals, count) {
         return Output::Refused(Refusal::BadPair);
     }
-    let led = nearest_lead(classes, intervals, wanted(lead));
+    let limit = highest + 1;
+    let led = nearest_lead(classes, intervals, wanted(lead, highest), lowest, limit);
     let mut buffer = [0u8; ROOM];
     let place = put_bass(&mut buffer, root, bass);
-    let end = put_above(&mut buffer, place, led);
+    let end = put_above(&mut buffer, place, led, lowest, limit);
     give(&buffer[..end], out)
+}
+
+// The voicing of a chord and its pairs in the range of keys that every voicing keeps to.
+pub fn voicing(chord: Chord, classes: &[u8], intervals: &[u8], out: &mut [u8]) -> Output
+    ensures { λ r. ⌜ Answered (voicingReply lowestKey highestKey chord (now (classes .entry)) (now (intervals .entry))) (now (out .entry)) r (now (out .exit)) ⌝ }
+{
+    voicing_within(chord, LOWEST, HIGHEST, classes, intervals, out)
 }

@@ -10,6 +10,7 @@ use borrow.Author.Needs.{needs}
 use Rattle.intervals.specs.Sets.{has}
 use Rattle.intervals.specs.Intervals.{setOf}
 use Rattle.pool.specs.declared.pool.Tone.{Tone}
+use Rattle.pool.specs.Pool.{anyTone}
 use Rattle.voicings.specs.Guides.{holdsAny, sixths, sevenths}
 use Rattle.pool.proofs.Left.{next, none}
 use Rattle.pool.specs.private.Places.{blank}
@@ -30,14 +31,14 @@ abbrev μ-loop : tie.MeasureT-loop
 module _ (set : ℕ) (tones : List Tone) (n i : ℕ) (found : Bool) (inv : Finds set tones n i found) where
   -- one tone more
   turn : (r : Bool) → r ≡ has set (getD tones i blank .interval) → i < n → n ≤ length tones → Finds set tones n (i + 1) (found || r)
-  unfolding holdsAny
+  unfolding holdsAny anyTone
   turn r e less fits =
       or-assoc found r (holdsAny set (slice (i + 1) n tones))
       ∙ ap (λ (b : Bool). found || b) (ap (λ (b : Bool). b || holdsAny set (slice (i + 1) n tones)) e ∙ sym (ap (holdsAny set) (next tones i n blank less fits)))
       ∙ inv
 
   all : i ≤ n → n ≤ i → found ≡ holdsAny set (slice 0 n tones)
-  unfolding holdsAny
+  unfolding holdsAny anyTone
   all h k = sym (ap (λ (l : List Tone). found || holdsAny set l) (none tones i n h k) ∙ or-false found) ∙ inv
 
 loop-again : tie.Need-loop-again Inv-loop μ-loop

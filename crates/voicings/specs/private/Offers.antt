@@ -1,4 +1,4 @@
--- Offers as the code holds them.
+-- Offers as the code holds them: the first of a run.
 use mathlib.Core.List.{List}
 use lib.ListN.{take}
 use Rattle.keys.specs.declared.nearest.Offer.{Offer}

@@ -1,0 +1,2 @@
+-- What only the code's own contracts cite.
+pub mod Offers
