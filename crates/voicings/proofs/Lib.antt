@@ -1,3 +1,4 @@
+pub mod Choosing
 pub mod Search
 pub mod Placing
 pub mod Few
