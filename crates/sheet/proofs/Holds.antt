@@ -18,12 +18,7 @@ use Rattle.rules.proofs.Computed.{suffix-computed}
 use Rattle.intervals.proofs.Rooted.{is-rooted, at-rooted}
 use Rattle.rules.proofs.Agree.{same-bool, same-bool→eq}
 use Rattle.listing.specs.Listing.{matching, setsOf, inBytes, listingOf}
-use Rattle.pool.specs.Pool.{tonesOf}
-use Rattle.pool.specs.Order.{insert, sorted}
-use Rattle.keys.specs.Choice.{keysFrom, keysOf, best, offersOf, offers, bestOf, without, chosen, others, placedIn, placed}
-use Rattle.leads.specs.Lead.{barring, lastOf, unbarred, owns, isOwned, withoutLast, leadOf}
-use Rattle.voicings.specs.Guides.{holdsAny, sixths, sevenths, guides, tensions, guideKeys, tensionKeys}
-use Rattle.voicings.specs.Voicing.{aboveBass, above, voicingOf, arePairs, voicingReply}
+use Rattle.voicings.proofs.Opened.{voicing-opened}
 use Rattle.sheet.specs.Sheet.{gives, answerOf, Row, sheet, Holds, AllHold}
 
 -- the sets of the two listings of the sheet
@@ -105,23 +100,10 @@ listings = (
   ap (λ (t : List ℕ). gives (text t) ∷ []) (listed-sets (bytes "7(b13)") flatThirteenth seven-only thirteenth-kept),
 )
 
--- what a voicing is computed by
-voicing-computed : Unit {0}
-unfolding has isIn intervals nth numbered setOf tonesOf insert sorted keysFrom keysOf best offersOf offers bestOf without chosen others placedIn placed barring lastOf unbarred owns isOwned withoutLast leadOf holdsAny sixths sevenths guides tensions guideKeys tensionKeys aboveBass above voicingOf arePairs voicingReply answerOf
-voicing-computed = tt
-
-major-seventh : Holds (at 9)
-unfolding voicing-computed
-major-seventh = refl
-
-diminished : Holds (at 10)
-unfolding voicing-computed
-diminished = refl
-
-flat-ninth : Holds (at 11)
-unfolding voicing-computed
-flat-ninth = refl
+voicings : Holds (at 9) × Holds (at 10) × Holds (at 11)
+unfolding voicing-opened answerOf
+voicings = (refl, refl, refl)
 
 pub sheet-holds : AllHold sheet
 sheet-holds =
-    (suffixes .0, (suffixes .1, (suffixes .2, (suffixes .3, (suffixes .4, (suffixes .5, (qualities, (listings .0, (listings .1, (major-seventh, (diminished, (flat-ninth, tt))))))))))))
+    (suffixes .0, (suffixes .1, (suffixes .2, (suffixes .3, (suffixes .4, (suffixes .5, (qualities, (listings .0, (listings .1, (voicings .0, (voicings .1, (voicings .2, tt))))))))))))

@@ -4,4 +4,5 @@ pub mod Placing
 pub mod Few
 pub mod Replied
 pub mod Laws
+pub mod Opened
 pub mod Determined

@@ -1,0 +1,15 @@
+-- What a voicing is made of, opened by one name: a declaration with the line `unfolding voicing-opened` computes voicings.
+use mathlib.Core.Option.{Option·elim}
+use Rattle.intervals.specs.Sets.{has, isIn}
+use Rattle.intervals.specs.Intervals.{intervals, nth, numbered, setOf}
+use Rattle.pool.specs.Pool.{tonesOf, anyTone}
+use Rattle.pool.specs.Order.{insert, sorted}
+use Rattle.keys.specs.Choice.{keysFrom, keysOf, keysOfTone, keysOfTones, nearest, without, chosen, otherTones, placedIn, placed}
+use Rattle.leads.specs.Lead.{barring, lastOf, unbarred, owns, withoutLast, leadOf}
+use Rattle.voicings.specs.Guides.{holdsAny, sixths, sevenths, guides, tensions, guideKeys, tensionKeys}
+use Rattle.voicings.specs.Voicing.{aboveBass, above, voicingOf, arePairs, voicingReply}
+
+-- the numbers and sets of intervals; the pool and its keys; the lead; guides and tensions; the whole
+unfoldable pub voicing-opened : Unit {0}
+unfolding has isIn intervals nth numbered setOf tonesOf anyTone insert sorted keysFrom keysOf keysOfTone keysOfTones nearest Option·elim without chosen otherTones placedIn placed barring lastOf unbarred owns withoutLast leadOf holdsAny sixths sevenths guides tensions guideKeys tensionKeys aboveBass above voicingOf arePairs voicingReply
+voicing-opened = tt
