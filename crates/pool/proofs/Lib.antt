@@ -5,4 +5,5 @@ pub mod Walk
 pub mod Turns
 pub mod Pairs
 pub mod Pooled
+pub mod Among
 pub mod Determined

@@ -4,5 +4,6 @@ pub mod Placing
 pub mod Few
 pub mod Replied
 pub mod Laws
+pub mod Musician
 pub mod Opened
 pub mod Determined
