@@ -1,6 +1,6 @@
 -- A climb over the keys of a class, from its own up by twelves: those below the range are passed; the next key is nearer to the wanted one
 -- exactly where that is beyond half the way to it, and from the first that is not, none is.
---     passed, taken, past    which keys a climb has
+--     passed, taken, past-limit    which keys a climb has
 --     reached        some octaves above the first, each nearer than the one before, and the next not below the limit or not nearer: the nearest
 --     no-key         where the first is not below the limit there is none
 use mathlib.Core.Path.{_≡_, refl, sym, ap, ap₂, _∙_}
@@ -56,10 +56,10 @@ module _ (lowest limit : ℕ) where
   unfolding keysFrom
   taken n key low h = rw (le-leb lowest key low, lt-ltb key limit h)
 
-  pub past : (n key : ℕ) → limit ≤ key → keysFrom lowest limit n key ≡ []
+  pub past-limit : (n key : ℕ) → limit ≤ key → keysFrom lowest limit n key ≡ []
   unfolding keysFrom
-  past zero key h = refl
-  past (suc n) key h = rw (le-ltb key limit h, and-false (leb lowest key)) (past n (key + 12) (omega arith))
+  past-limit zero key h = refl
+  past-limit (suc n) key h = rw (le-ltb key limit h, and-false (leb lowest key)) (past-limit n (key + 12) (omega arith))
 
   -- some octaves, of which the last key is below the range too
   all-passed : (m n key : ℕ) → m * 12 < lowest - key + 12 → keysFrom lowest limit (m + n) key ≡ keysFrom lowest limit n (key + m * 12)
@@ -75,7 +75,7 @@ module _ (lowest limit : ℕ) where
   none-left : (n m key : ℕ) → m * 12 < lowest - key + 12 → limit ≤ key + m * 12 → keysFrom lowest limit n key ≡ []
   unfolding keysFrom
   none-left zero m key h top = refl
-  none-left (suc n) zero key h top = past (suc n) key (omega arith)
+  none-left (suc n) zero key h top = past-limit (suc n) key (omega arith)
   none-left (suc n) (suc m) key h top = passed n key (omega arith) ∙ none-left n m (key + 12) (omega arith) (omega arith)
 
   module _ (wanted interval : ℕ) where
@@ -131,7 +131,7 @@ module _ (lowest limit : ℕ) where
         starts n key low h
         ∙ ap (λ (k : ToneKey). some k)
         (⊎-elim
-        (λ last. ap (λ (l : List ℕ). unlessNearer wanted (toneKey interval key) (nearest wanted (map (toneKey interval) l))) (past n (key + 12) last))
+        (λ last. ap (λ (l : List ℕ). unlessNearer wanted (toneKey interval key) (nearest wanted (map (toneKey interval) l))) (past-limit n (key + 12) last))
         (λ near. stays n key (key + 12) near (omega arith))
         end)
 

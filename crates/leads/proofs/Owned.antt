@@ -43,8 +43,8 @@ module _ (lowest limit k : ℕ) where
           → fits key && eqb k key || isIn k rest ≡ fits k && eqb ((k - key) % 12) 0
       by-order (no least) near more =
           let e : k ≡ key = omega arith in
-          let whole : (k - key) % 12 ≡ 0 = omega arith in
-          rw (none-below n (key + 12) (omega arith), eq-eqb k key e, eq-eqb ((k - key) % 12) 0 whole, and-true (fits key), and-true (fits k), or-false (fits key))
+          let no-rest : (k - key) % 12 ≡ 0 = omega arith in
+          rw (none-below n (key + 12) (omega arith), eq-eqb k key e, eq-eqb ((k - key) % 12) 0 no-rest, and-true (fits key), and-true (fits k), or-false (fits key))
           (ap fits (sym e))
       by-order (yes above) (yes near) more =
           let other : k ≡ key → ⊥ = λ e. omega arith in

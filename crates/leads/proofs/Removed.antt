@@ -1,6 +1,6 @@
 -- A pool without one of its tones.
 --     split       without the tone at a place: those before it, and those behind it
---     past        past its last tone a pool is as it was
+--     past-last   past its last tone a pool is as it was
 --     last-gone   the tone at a place that owns a key, with none behind that does, is the last that owns it
 --     none-gone   where no tone owns the key, none leaves
 use mathlib.Core.Path.{_≡_, refl, sym, ap, _∙_}
@@ -28,11 +28,11 @@ split-at-suc (t ∷ l) (suc i) (suc n) h = ap (λ (x : List Tone). t ∷ x) (spl
 pub split : (l : List Tone) (i n : ℕ) → i < n → take i l ++ slice (i + 1) n l ≡ withoutAt i (take n l)
 split l i n h = rw add-one (split-at-suc l i n h)
 
-pub past : (l : List Tone) (i : ℕ) → length l ≤ i → withoutAt i l ≡ l
+pub past-last : (l : List Tone) (i : ℕ) → length l ≤ i → withoutAt i l ≡ l
 unfolding withoutAt
-past [] i h = refl
-past (t ∷ l) zero h = absurd (not-suc-le-zero h)
-past (t ∷ l) (suc i) h = ap (λ (x : List Tone). t ∷ x) (past l i (le-of-suc-le-suc h))
+past-last [] i h = refl
+past-last (t ∷ l) zero h = absurd (not-suc-le-zero h)
+past-last (t ∷ l) (suc i) h = ap (λ (x : List Tone). t ∷ x) (past-last l i (le-of-suc-le-suc h))
 
 or-right : (a b : Bool) → b ≡ true → a || b ≡ true
 or-right true b e = refl

@@ -3,6 +3,7 @@
 --     taken-few    the first n of a list are at most n, and no more than all
 --     pooled       the pool of the tones of two ranges, of which the first are taken
 --     laid-is, laid-tones    tones laid over sixteen places make a pool, and are its tones
+--     pool-size    a pool has as many tones as it counts
 --     pool-whole   a pool is its tones, laid over itself
 --     pool-tones   the tones of a pool are the first sixteen
 --     pool-is      tones as a pool make one
@@ -60,14 +61,17 @@ pooled cs is n r e told =
 -- tones laid over sixteen places make a pool, and are its tones
 module _ (l run : List Tone) (few : length l ≤ 16) (places : length run ≡ 16) where
   pub laid-is : IsPool (laidOver l run)
-  laid-is = record { places = simp (length-append, length-drop) (omega arith); few = few }
+  laid-is = record { places = simp (length-append, length-drop) (omega arith); at-most-16 = few }
 
 pub laid-tones : (l run : List Tone) → tonesIn (laidOver l run) ≡ l
 laid-tones l run = take-at l (drop (length l) run) (length l) refl
 
+pub pool-size : (pool : Pool) → IsPool pool → length (tonesIn pool) ≡ pool .count
+pool-size pool is = length-take-le (pool .count) (pool .tones) (omega (arith, is .places, is .at-most-16))
+
 pub pool-whole : (pool : Pool) → IsPool pool → pool ≡ laidOver (tonesIn pool) (pool .tones)
 pool-whole pool is =
-    let e = length-take-le (pool .count) (pool .tones) (omega (arith, is .places, is .few)) in
+    let e = pool-size pool is in
     ap (λ (tones : List Tone). record { tones = tones; count = pool .count }) (sym (take-append-drop (pool .count) (pool .tones)))
     ∙ ap (λ (n : ℕ). record { tones = tonesIn pool ++ drop n (pool .tones); count = n }) (sym e)
 

@@ -1,6 +1,6 @@
 -- What a call for a voicing has to give, by the tests on its record and its pairs.
 --     no-class, too-many, bad-pair    refusals 2, 3 and 4
---     told                            the voicing
+--     gives-voicing                   the voicing
 --     few-bass                        at most two keys stand below the guides
 use mathlib.Core.Path.{_≡_}
 use mathlib.Core.Bool.{Bool, true, false, _&&_}
@@ -35,9 +35,9 @@ module _ (lowest highest : ℕ) (chord : Chord) (cs is : List ℕ) where
     unfolding voicingReply
     bad-pair h bad = rw (e, le-leb (length (tonesOf cs is)) 16 h, bad)
 
-    pub told : length (tonesOf cs is) ≤ 16 → arePairs (tonesOf cs is) ≡ true → voicingReply lowest highest chord cs is ≡ text (voicingOf lowest highest chord cs is)
+    pub gives-voicing : length (tonesOf cs is) ≤ 16 → arePairs (tonesOf cs is) ≡ true → voicingReply lowest highest chord cs is ≡ text (voicingOf lowest highest chord cs is)
     unfolding voicingReply
-    told h good = rw (e, le-leb (length (tonesOf cs is)) 16 h, good)
+    gives-voicing h good = rw (e, le-leb (length (tonesOf cs is)) 16 h, good)
 
 pub few-bass : (root : ℕ) (bass : Bass) → length (bassKeys root bass) ≤ 2
 few-bass root Bass.None = omega arith

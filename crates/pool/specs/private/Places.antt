@@ -32,7 +32,7 @@ tonesIn pool = take (pool .count) (pool .tones)
 -- what makes a pool: sixteen places, of which the first are its tones
 pub record IsPool (pool : Pool) : Type 0 where
   pub places : length (pool .tones) ≡ 16
-  pub few : pool .count ≤ 16
+  pub at-most-16 : pool .count ≤ 16
 
 -- whether the first n of a run can be put in order: the run has as many, and they are at most 16
 unfoldable pub takesPart : ℕ → List Tone → Bool

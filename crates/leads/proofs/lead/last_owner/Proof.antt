@@ -3,14 +3,15 @@ use mathlib.Core.Path.{_≡_, sym, ap, _∙_}
 use mathlib.Core.Bool.{false}
 use Prim.Native.Nat.{ℕ, _+_, _-_, _≤_}
 use native.Mathlib.Omega.{arith}
-use lib.Seq.{slice, length-take-le}
+use lib.Seq.{slice}
 use borrow.Author.Needs.{needs}
 use Rattle.pool.specs.declared.pool.Tone.{Tone}
 use Rattle.pool.specs.private.Places.{tonesIn}
 use Rattle.pool.specs.Pool.{anyTone}
 use Rattle.leads.specs.Lead.{owns}
 use Rattle.pool.proofs.Left.{next, none}
-use Rattle.leads.proofs.Removed.{past, last-gone, none-gone}
+use Rattle.pool.proofs.Pooled.{pool-size}
+use Rattle.leads.proofs.Removed.{past-last, last-gone, none-gone}
 use Rattle.leads.proofs.lead.last_owner.Statement.{statement}
 use Rattle.leads.proofs.lead.last_owner.Tie as tie
 
@@ -31,8 +32,8 @@ behind : (c : tie.After-owns Inv-loop μ-loop)
 behind c =
     let l = c .before .before .before in
     let s = l .before in
-    let back : l .loop .i - 1 + 1 ≡ l .loop .i = let h = c .before .before .loop-test .taken in omega arith in
-    ap (λ (j : ℕ). anyTone (owns (s .args .lowest) (s .args .limit) (s .args .key)) (slice j (s .args .t1 .count) (s .args .t1 .tones))) back ∙ l .loop .inv .1
+    let same-place : l .loop .i - 1 + 1 ≡ l .loop .i = let h = c .before .before .loop-test .taken in omega arith in
+    ap (λ (j : ℕ). anyTone (owns (s .args .lowest) (s .args .limit) (s .args .key)) (slice j (s .args .t1 .count) (s .args .t1 .tones))) same-place ∙ l .loop .inv .1
 
 returns : tie.Need-returns Inv-loop μ-loop
 returns c =
@@ -53,9 +54,8 @@ returns-2 : tie.Need-returns-2 Inv-loop μ-loop
 returns-2 c =
     let s = c .before .before in
     let start : c .before .loop .i ≡ 0 = let h = c .loop-test .left in omega arith in
-    let whole = ap (λ (j : ℕ). anyTone (owns (s .args .lowest) (s .args .limit) (s .args .key)) (slice j (s .args .t1 .count) (s .args .t1 .tones))) (sym start) ∙ c .before .loop .inv .1 in
-    let short = length-take-le (s .args .t1 .count) (s .args .t1 .tones) (omega arith) in
-    (omega arith, past (tonesIn (s .args .t1)) (s .args .t1 .count) (omega (arith, short)) ∙ sym (none-gone (s .args .lowest) (s .args .limit) (s .args .key) (tonesIn (s .args .t1)) whole))
+    let none-owns = ap (λ (j : ℕ). anyTone (owns (s .args .lowest) (s .args .limit) (s .args .key)) (slice j (s .args .t1 .count) (s .args .t1 .tones))) (sym start) ∙ c .before .loop .inv .1 in
+    (omega arith, past-last (tonesIn (s .args .t1)) (s .args .t1 .count) (omega (arith, pool-size (s .args .t1) (s .pre))) ∙ sym (none-gone (s .args .lowest) (s .args .limit) (s .args .key) (tonesIn (s .args .t1)) none-owns))
 
 pub last-owner-spec : {M : Type 1} → statement M
 last-owner-spec =

@@ -68,10 +68,10 @@ loop-again c =
     let s = c .before .before .before .before .before .before .before .before .before .before in
     let member = c .before .in-set in
     let less = ap (λ (o : Offer). ltb (o .rank) (l .found .rank)) (near .ensures) in
-    let told = turn (s .args .lowest) (s .args .limit) (s .args .wanted) free (s .args .t1 .tones) (l .found) (l .i) (s .args .t1 .count) (omega arith) (omega arith) (ltb (near .result .rank) (l .found .rank)) (member .result) (sym less) (sym (member .ensures)) in
+    let found = turn (s .args .lowest) (s .args .limit) (s .args .wanted) free (s .args .t1 .tones) (l .found) (l .i) (s .args .t1 .count) (omega arith) (omega arith) (ltb (near .result .rank) (l .found .rank)) (member .result) (sym less) (sym (member .ensures)) in
     ⊎-elim
-    (λ w. (omega arith, rw (w .1 ∙ near .ensures) (rw (w .0 .taken) at told) ∙ l .inv .1))
-    (λ w. (omega arith, rw (w .1) (rw (w .0 .left) at told) ∙ l .inv .1))
+    (λ w. (omega arith, rw (w .1 ∙ near .ensures) (rw (w .0 .taken) at found) ∙ l .inv .1))
+    (λ w. (omega arith, rw (w .1) (rw (w .0 .left) at found) ∙ l .inv .1))
     (c .if1 .came)
 
 -- the key of what is found, or 0

@@ -9,10 +9,10 @@ use lib.Seq.{slice, length-take-le, drop-set-lt, drop-drop}
 use Rattle.pool.specs.declared.pool.Tone.{Tone}
 use Rattle.pool.specs.declared.pool.Pool.{Pool}
 use Rattle.pool.specs.private.Places.{laidOver, tonesIn}
-use Rattle.pool.proofs.Pooled.{pool-whole}
+use Rattle.pool.proofs.Pooled.{pool-size, pool-whole}
 use Rattle.leads.specs.private.Leaves.{withoutAt}
 use Rattle.pool.proofs.Left.{next, none, pushed, behind}
-use Rattle.leads.proofs.Removed.{split, past}
+use Rattle.leads.proofs.Removed.{split, past-last}
 use Rattle.leads.proofs.lead.remove.Statement.{statement}
 use Rattle.leads.proofs.lead.remove.Tie as tie
 
@@ -38,8 +38,7 @@ moved d l i n h k =
 returns : tie.Need-returns Inv-loop μ-loop
 returns c =
     let pool = c .before .args .pool in
-    let short = length-take-le (pool .count) (pool .tones) (omega arith) in
-    pool-whole pool (c .before .pre) ∙ ap (λ (l : List Tone). laidOver l (pool .tones)) (sym (past (tonesIn pool) (c .before .args .place) (omega (arith, short, c .if1 .taken))))
+    pool-whole pool (c .before .pre) ∙ ap (λ (l : List Tone). laidOver l (pool .tones)) (sym (past-last (tonesIn pool) (c .before .args .place) (omega (arith, pool-size pool (c .before .pre), c .if1 .taken))))
 
 loop-again : tie.Need-loop-again Inv-loop μ-loop
 loop-again c =

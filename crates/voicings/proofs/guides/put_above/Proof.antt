@@ -5,13 +5,13 @@ use mathlib.Core.List.{List, [], _∷_}
 use Prim.Native.Nat.{ℕ, _+_, _≤_, _<_}
 use native.Mathlib.Omega.{arith}
 use lib.ListN.{length, length-set}
-use lib.Seq.{length-take-le}
 use borrow.Author.Needs.{needs}
 use Rattle.answer.proofs.Writing.{also, same-text, stored}
 use Rattle.intervals.specs.Intervals.{setOf}
 use Rattle.pool.specs.declared.pool.Tone.{Tone}
 use Rattle.pool.specs.declared.pool.Pool.{Pool}
 use Rattle.pool.specs.private.Places.{tonesIn, IsPool}
+use Rattle.pool.proofs.Pooled.{pool-size}
 use Rattle.keys.specs.Choice.{chosen, placed}
 use Rattle.voicings.specs.Guides.{holdsAny, sixths, sevenths, guides, tensions, guideOnce, tensionOnce, guideKeys, tensionKeys}
 use Rattle.voicings.specs.Voicing.{aboveBass}
@@ -33,19 +33,16 @@ module _ (lowest : ℕ) (pool : List Tone) (once : ℕ) (sixth seventh : Bool) (
       (e ∙ ap₂ (λ (a b : Bool). setOf (tensionOnce a b count)) six seven
       ∙ ap (λ (n : ℕ). setOf (tensionOnce (holdsAny sixths pool) (holdsAny sevenths pool) n)) size)
 
-size : (pool : Pool) → IsPool pool → length (tonesIn pool) ≡ pool .count
-size pool is = length-take-le (pool .count) (pool .tones) (omega (arith, is .places, is .few))
-
 -- at most as many are placed as the pool has tones
-few : (lowest limit wanted whole once : ℕ) (pool : Pool) → IsPool pool → length (placed lowest limit wanted (chosen whole once (tonesIn pool))) ≤ 16
-few lowest limit wanted whole once pool is = omega (arith, few-of lowest limit wanted whole once (tonesIn pool), size pool is, is .few)
+few-placed : (lowest limit wanted whole once : ℕ) (pool : Pool) → IsPool pool → length (placed lowest limit wanted (chosen whole once (tonesIn pool))) ≤ 16
+few-placed lowest limit wanted whole once pool is = omega (arith, few-of lowest limit wanted whole once (tonesIn pool), pool-size pool is, is .at-most-16)
 
 module _ (c : tie.After-put-placed) where
   abbrev start : tie.Start
   start = c .before .before .before .before .before .before
 
   guided : c .put-placed .result ≤ start .args .place + 16
-  guided = omega (arith, c .put-placed .ensures .place, few (start .args .lowest) (start .args .limit) 0 13048 (c .before .before .guide-once .result) (start .args .led .left) (start .pre .0))
+  guided = omega (arith, c .put-placed .ensures .place, few-placed (start .args .lowest) (start .args .limit) 0 13048 (c .before .before .guide-once .result) (start .args .led .left) (start .pre .0))
 
 module _ (c : tie.After-put-placed2) where
   abbrev guides-put : tie.After-put-placed
@@ -54,7 +51,7 @@ module _ (c : tie.After-put-placed2) where
   tensed : c .put-placed2 .result ≤ guides-put .put-placed .result + 16
   tensed =
       let a = start guides-put .args in
-      omega (arith, c .put-placed2 .ensures .place, few (a .lowest) (a .led .key) (a .led .key) 8323072 (c .before .before .tension-once .result) (a .led .left) (start guides-put .pre .0))
+      omega (arith, c .put-placed2 .ensures .place, few-placed (a .lowest) (a .led .key) (a .led .key) 8323072 (c .before .before .tension-once .result) (a .led .left) (start guides-put .pre .0))
 
 -- the lead has room behind them
 within : (c : tie.After-slice-known3) → c .before .before .put-placed2 .result < length (c .before .before .put-placed2 .last .0)
@@ -75,7 +72,7 @@ returns c =
     also
     (also
     (same-text (guide-keys (a .lowest) pool _ _ _ (found .ensures .0) (found .ensures .1) (a .limit) (g .before .before .guide-once .ensures)) (g .put-placed .ensures))
-    (same-text (tension-keys (a .lowest) pool _ _ _ (found .ensures .0) (found .ensures .1) (a .led .key) _ (sym (size (a .led .left) (s .pre .0))) (t .before .before .tension-once .ensures)) (t .put-placed2 .ensures)))
+    (same-text (tension-keys (a .lowest) pool _ _ _ (found .ensures .0) (found .ensures .1) (a .led .key) _ (sym (pool-size (a .led .left) (s .pre .0))) (t .before .before .tension-once .ensures)) (t .put-placed2 .ensures)))
     (stored (a .led .key ∷ []) (t .put-placed2 .last .0) (t .put-placed2 .result) (omega (arith, within c)))
 
 pub put-above-spec : {M : Type 1} → statement M

@@ -26,7 +26,7 @@ use Rattle.leads.proofs.Led.{led-is, led-left}
 use Rattle.voicings.specs.Voicing.{wantedOf, bassKeys, aboveBass, above, isBass, arePairs, voicingOf}
 use Rattle.pool.proofs.Pairs.{few-classes, few-intervals, first-used}
 use Rattle.pool.proofs.Sorted.{sorted-length}
-use Rattle.voicings.proofs.Replied.{no-class, too-many, bad-pair, told, few-bass}
+use Rattle.voicings.proofs.Replied.{no-class, too-many, bad-pair, gives-voicing, few-bass}
 use Rattle.voicings.proofs.voicing.voicing_within.Statement.{statement}
 use Rattle.voicings.proofs.voicing.voicing_within.Tie as tie
 
@@ -75,15 +75,15 @@ module _ (c : tie.Else2) where
   used-tones : tonesOf (take count classes) (take count intervals) ≡ tonesOf classes intervals
   used-tones = rw (c .before .used .ensures) (first-used classes intervals)
 
-  few : length (tonesOf classes intervals) ≤ 16
-  few = subst (λ (n : ℕ). n ≤ 16) (c .before .used .ensures) (c .if2 .left)
+  at-most-16 : length (tonesOf classes intervals) ≤ 16
+  at-most-16 = subst (λ (n : ℕ). n ≤ 16) (c .before .used .ensures) (c .if2 .left)
 
 returns-3 : tie.Need-returns-3
 returns-3 c =
     let s = c .before .before .before .before .before .before .before .before .before in
     let e = c .before .before in
     let bad = refused _ _ (c .before .are-pairs .ensures ∙ ap arePairs (used-tones e)) (c .if3 .taken) in
-    refused-by _ _ _ (bad-pair _ _ (s .args .chord) _ _ (good (e .before .before)) (few e) bad)
+    refused-by _ _ _ (bad-pair _ _ (s .args .chord) _ _ (good (e .before .before)) (at-most-16 e) bad)
 
 -- the lead, and the pool that it leaves
 module _ (c : tie.After-nearest-lead) where
@@ -108,14 +108,14 @@ module _ (c : tie.After-nearest-lead) where
   led : c .nearest-lead .result ≡ ledOf lowest limit wanted (sorted tones)
   led =
       c .nearest-lead .ensures
-      ∙ ap₂ (λ (w : ℕ) (l : List Tone). ledOf lowest limit w (sorted l)) (c .before .wanted .ensures) (take-all 16 tones (few pairs))
+      ∙ ap₂ (λ (w : ℕ) (l : List Tone). ledOf lowest limit w (sorted l)) (c .before .wanted .ensures) (take-all 16 tones (at-most-16 pairs))
 
   is-pool : IsPool (c .nearest-lead .result .left)
-  is-pool = subst (λ (x : Led). IsPool (x .left)) (sym led) (led-is lowest limit wanted (sorted tones) (omega (arith, sorted-length tones, few pairs)))
+  is-pool = subst (λ (x : Led). IsPool (x .left)) (sym led) (led-is lowest limit wanted (sorted tones) (omega (arith, sorted-length tones, at-most-16 pairs)))
 
-  told-above : aboveBass lowest limit (c .nearest-lead .result .key) (tonesIn (c .nearest-lead .result .left)) ≡ above lowest limit wanted (sorted tones)
+  above-is : aboveBass lowest limit (c .nearest-lead .result .key) (tonesIn (c .nearest-lead .result .left)) ≡ above lowest limit wanted (sorted tones)
   unfolding ledOf above
-  told-above =
+  above-is =
       ap (λ (x : Led). aboveBass lowest limit (x .key) (tonesIn (x .left))) led
       ∙ ap (aboveBass lowest limit (leadOf lowest limit wanted (sorted tones))) (led-left lowest limit wanted (sorted tones))
 
@@ -131,7 +131,7 @@ module _ (c : tie.After-put-above) where
   unfolding voicingOf
   stands =
       same-text
-      (ap (λ (l : List ℕ). bassKeys (start lead .args .chord .root) (start lead .args .chord .bass) ++ l) (told-above lead ∙ limit-is))
+      (ap (λ (l : List ℕ). bassKeys (start lead .args .chord .root) (start lead .args .chord .bass) ++ l) (above-is lead ∙ limit-is))
       (also (c .before .before .before .put-bass .ensures) (c .put-above .ensures))
 
 returns-4 : tie.Need-returns-4
@@ -142,7 +142,7 @@ returns-4 c =
     let a = lead p .before .before in
     let e = pairs (lead p) in
     let good-pairs = admitted _ _ (a .before .are-pairs .ensures ∙ ap arePairs (used-tones e)) (a .if3 .left) in
-    let reply = ap text (stands p .added) ∙ sym (told (s .args .lowest) (s .args .highest) (s .args .chord) (now (s .args .classes)) (now (s .args .intervals)) (good (e .before .before)) (few e) good-pairs) in
+    let reply = ap text (stands p .added) ∙ sym (gives-voicing (s .args .lowest) (s .args .highest) (s .args .chord) (now (s .args .classes)) (now (s .args .intervals)) (good (e .before .before)) (at-most-16 e) good-pairs) in
     subst (λ (x : Reply). Answered x (now (s .args .out)) (g .give .result) (g .give .last .1 .0)) reply (g .give .ensures)
 
 pub voicing-within-spec : {M : Type 1} → statement M
