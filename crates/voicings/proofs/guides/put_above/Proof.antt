@@ -6,6 +6,7 @@ use Prim.Native.Nat.{ℕ, _+_, _≤_, _<_}
 use native.Mathlib.Omega.{arith}
 use lib.ListN.{length, length-set}
 use borrow.Author.Needs.{needs}
+use Rattle.answer.specs.Written.{Writes}
 use Rattle.answer.proofs.Writing.{also, same-text, stored}
 use Rattle.intervals.specs.Intervals.{setOf}
 use Rattle.pool.specs.declared.pool.Tone.{Tone}
@@ -33,25 +34,26 @@ module _ (lowest : ℕ) (pool : List Tone) (once : ℕ) (sixth seventh : Bool) (
       (e ∙ ap₂ (λ (a b : Bool). setOf (tensionOnce a b count)) six seven
       ∙ ap (λ (n : ℕ). setOf (tensionOnce (holdsAny sixths pool) (holdsAny sevenths pool) n)) size)
 
--- at most as many are placed as the pool has tones
+-- at most as many are placed as the pool has tones, and so far they reach
 few-placed : (lowest limit wanted whole once : ℕ) (pool : Pool) → IsPool pool → length (placed lowest limit wanted (chosen whole once (tonesIn pool))) ≤ 16
 few-placed lowest limit wanted whole once pool is = omega (arith, few-of lowest limit wanted whole once (tonesIn pool), pool-size pool is, is .at-most-16)
+
+reaches : {l l′ t : List ℕ} {place r : ℕ} → Writes l place t r l′ → length t ≤ 16 → r ≤ place + 16
+reaches w h = omega (arith, w .place)
 
 module _ (c : tie.After-put-placed) where
   abbrev start : tie.Start
   start = c .before .before .before .before .before .before
 
   guided : c .put-placed .result ≤ start .args .place + 16
-  guided = omega (arith, c .put-placed .ensures .place, few-placed (start .args .lowest) (start .args .limit) 0 13048 (c .before .before .guide-once .result) (start .args .led .left) (start .pre .0))
+  guided = reaches (c .put-placed .ensures) (few-placed _ _ _ _ _ (start .args .led .left) (start .pre .0))
 
 module _ (c : tie.After-put-placed2) where
   abbrev guides-put : tie.After-put-placed
   guides-put = c .before .before .before .before .before
 
   tensed : c .put-placed2 .result ≤ guides-put .put-placed .result + 16
-  tensed =
-      let a = start guides-put .args in
-      omega (arith, c .put-placed2 .ensures .place, few-placed (a .lowest) (a .led .key) (a .led .key) 8323072 (c .before .before .tension-once .result) (a .led .left) (start guides-put .pre .0))
+  tensed = reaches (c .put-placed2 .ensures) (few-placed _ _ _ _ _ (start guides-put .args .led .left) (start guides-put .pre .0))
 
 -- the lead has room behind them
 within : (c : tie.After-slice-known3) → c .before .before .put-placed2 .result < length (c .before .before .put-placed2 .last .0)
