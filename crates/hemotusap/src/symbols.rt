@@ -8,13 +8,12 @@ use spelling::tones::tones;
 ghost use mathlib.Core.Path.{_≡_};
 ghost use lib.IntN.{pos};
 ghost use Rattle.answer.specs.Replies.{text};
-ghost use Rattle.intervals.specs.Intervals.{degreeOf};
 ghost use Rattle.intervals.specs.Sets.{classCount};
 ghost use Rattle.rules.specs.Suffix.{suffixReply};
 ghost use Rattle.candidates.specs.Keys.{classSet};
 ghost use Rattle.candidates.specs.Candidates.{flats, candidatesOf};
 ghost use Rattle.listing.specs.Listing.{listingOf};
-ghost use Rattle.spelling.specs.Tones.{tonesReply};
+ghost use Rattle.spelling.specs.Tones.{spelledBy, tonesReply};
 ghost use Rattle.hemotusap.specs.Host.{HostAnswered};
 
 #[no_mangle]
@@ -33,7 +32,7 @@ pub extern "C" fn hemotusap_listing(name: &[u8], out: &mut [u8]) -> i64
 
 #[no_mangle]
 pub extern "C" fn hemotusap_tones(root: u32, set: u32, out: &mut [u8]) -> i64
-    ensures { λ r. ⌜ HostAnswered (tonesReply degreeOf root set) (now (out .entry)) r (now (out .exit)) ⌝ }
+    ensures { λ r. ⌜ HostAnswered (tonesReply spelledBy root set) (now (out .entry)) r (now (out .exit)) ⌝ }
 {
     written(tones(root, set, out))
 }

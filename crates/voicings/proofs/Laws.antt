@@ -1,10 +1,13 @@
 -- Theorem on the room of a voicing.
 --     voicing-room    two bass keys, sixteen guides, sixteen tensions and the lead: what the header says is enough
-use mathlib.Core.Path.{_≡_}
-use mathlib.Core.List.{List, [], _∷_, _++_}
+use mathlib.Core.Bool.{Bool, true, false, cond, _&&_}
+use mathlib.Core.List.{List}
 use Prim.Native.Nat.{ℕ, suc, _+_, _≤_}
 use native.Mathlib.Omega.{arith}
+use lib.Dec.{T, leb, leb→le}
 use lib.ListN.{length, length-append}
+use Rattle.answer.specs.Replies.{AtMost, refuse, text}
+use Rattle.answer.specs.declared.refusal.Refusal.the-variants.{BadClass, TooManyPairs, BadPair}
 use Rattle.pool.specs.declared.pool.Tone.{Tone}
 use Rattle.pool.specs.Pool.{tonesOf}
 use Rattle.pool.specs.Order.{sorted}
@@ -12,8 +15,7 @@ use Rattle.pool.proofs.Sorted.{sorted-length}
 use Rattle.leads.specs.Lead.{leadOf, withoutLast}
 use Rattle.leads.proofs.Led.{fewer}
 use Rattle.voicings.specs.declared.voicing.Chord.{Chord}
-use Rattle.voicings.specs.Guides.{guideKeys, tensionKeys}
-use Rattle.voicings.specs.Voicing.{wantedOf, bassKeys, aboveBass, above, voicingOf}
+use Rattle.voicings.specs.Voicing.{wantedOf, aboveBass, above, voicingOf, isBass, arePairs, voicingReply}
 use Rattle.voicings.proofs.Few.{few-guides, few-tensions}
 use Rattle.voicings.proofs.Replied.{few-bass}
 
@@ -21,12 +23,23 @@ few-above : (lowest limit lead : ℕ) (left : List Tone) → length (aboveBass l
 unfolding aboveBass
 few-above lowest limit lead left = simp length-append (omega (arith, few-guides lowest limit left, few-tensions lowest lead left))
 
-module _ (lowest highest : ℕ) where
-  pub voicing-room : (chord : Chord) (classes intervals : List ℕ) → length (tonesOf classes intervals) ≤ 16
-      → length (voicingOf lowest highest chord classes intervals) ≤ 35
+module _ (lowest highest : ℕ) (chord : Chord) (classes intervals : List ℕ) where
+  few-keys : length (tonesOf classes intervals) ≤ 16 → length (voicingOf lowest highest chord classes intervals) ≤ 35
   unfolding voicingOf above
-  voicing-room chord classes intervals h =
+  few-keys h =
       let pool = sorted (tonesOf classes intervals) in
       let lead = leadOf lowest (suc highest) (wantedOf highest (chord .lead)) pool in
       let left = withoutLast lowest (suc highest) lead pool in
       simp length-append (omega (arith, few-bass (chord .root) (chord .bass), few-above lowest (suc highest) lead left, fewer lowest (suc highest) lead pool, sorted-length (tonesOf classes intervals)))
+
+  pub voicing-room : AtMost 35 (voicingReply lowest highest chord classes intervals)
+  unfolding voicingReply
+  voicing-room =
+      by-tests (leb (chord .root) 11 && isBass (chord .bass)) (leb (length (tonesOf classes intervals)) 16) (leb→le _ _) (arePairs (tonesOf classes intervals))
+    where
+      by-tests : (good few : Bool) → (T few → length (tonesOf classes intervals) ≤ 16) → (pairs : Bool)
+          → AtMost 35 (cond good (cond few (cond pairs (text (voicingOf lowest highest chord classes intervals)) (refuse BadPair)) (refuse TooManyPairs)) (refuse BadClass))
+      by-tests false few h pairs = tt
+      by-tests true false h pairs = tt
+      by-tests true true h false = tt
+      by-tests true true h true = few-keys (h tt)
