@@ -4,7 +4,7 @@
 --     placed-from      a key that some tones are placed at is a key of one of them
 --     none-nearer      no key is nearer than the nearest
 --     no-keys          where none is the nearest there is none
-use mathlib.Core.Path.{_≡_, refl, sym, ap, subst, _∙_}
+use mathlib.Core.Path.{_≡_, refl, sym, subst}
 use mathlib.Core.Bool.{Bool, true, false, cond, _||_}
 use mathlib.Core.List.{List, [], _∷_, List·Memᴰ, List·Memᴰ·head, List·Memᴰ·tail, List·Memᴰ·not-nil, List·Memᴰ·cases-cons}
 use mathlib.Core.Logic.{_⊎_, ⊎-elim}
@@ -12,12 +12,12 @@ use mathlib.Core.Option.{Option, none, some, Option·elim, IsSome}
 use Prim.Native.Nat.{ℕ, zero, suc, _≤_, _<_}
 use native.Mathlib.Decide.{decLt}
 use native.Mathlib.Omega.{arith}
-use lib.Dec.{eqb, ltb}
+use lib.Dec.{eqb}
 use borrow.Author.Tests.{lt-ltb, le-ltb}
 use Rattle.intervals.specs.Sets.{has}
 use Rattle.pool.specs.declared.pool.Tone.{Tone}
 use Rattle.keys.specs.Choice.{distance, ToneKey, keysOfTones, unlessNearer, nearest, without, chosen, otherTones, placedIn}
-use Rattle.keys.proofs.Winner.{IsKey, FromTone, from-tones, IsOne, is-one}
+use Rattle.keys.proofs.Winner.{KeyOf, of-more, from-tones, IsOne, is-one}
 
 pub one-of : {A : Type 0} {a x : A} {l m n : List A} (b : Bool) → List·Memᴰ a (cond b (x ∷ l) m) → (List·Memᴰ a l → List·Memᴰ a n) → (List·Memᴰ a m → List·Memᴰ a n)
     → List·Memᴰ a (x ∷ n)
@@ -39,16 +39,6 @@ in-chosen whole once [] t h = h
 in-chosen whole once (x ∷ l) t h =
     one-of (has whole (x .interval) || has once (x .interval)) h (in-chosen whole (without (x .interval) once) l t) (in-chosen whole once l t)
 
--- a key of one of some tones
-pub record KeyOf (lowest limit : ℕ) (tones : List Tone) (key : ℕ) : Type 0 where
-  pub tone : Tone
-  pub among : List·Memᴰ tone tones
-  pub key-is : IsKey lowest limit (tone .class) key
-
--- of more tones
-pub of-more : {lowest limit : ℕ} {l m : List Tone} {key : ℕ} → ((t : Tone) → List·Memᴰ t l → List·Memᴰ t m) → KeyOf lowest limit l key → KeyOf lowest limit m key
-of-more f k = record { tone = k .tone; among = f (k .tone) (k .among); key-is = k .key-is }
-
 module _ (lowest limit wanted : ℕ) where
   pub placed-from : (n : ℕ) (tones : List Tone) (key : ℕ) → List·Memᴰ key (placedIn lowest limit wanted n tones) → KeyOf lowest limit tones key
   unfolding placedIn Option·elim
@@ -61,10 +51,9 @@ module _ (lowest limit wanted : ℕ) where
           → ((i : ℕ) → List·Memᴰ key (placedIn lowest limit wanted n (otherTones i tones)) → KeyOf lowest limit (otherTones i tones) key) → KeyOf lowest limit tones key
       by-case none one h rest = absurd (List·Memᴰ·not-nil h)
       by-case (some k) one h rest =
-          let from = from-tones lowest limit tones k one in
           ⊎-elim
-          (λ (e : key ≡ k .key). record { tone = from .tone; among = from .among; key-is = subst (IsKey lowest limit (from .tone .class)) (sym e) (from .key-is) })
-          (λ more. of-more (in-others (k .interval) tones) (rest (k .interval) more))
+          (λ (e : key ≡ k .key). subst (KeyOf lowest limit tones) (sym e) (from-tones lowest limit tones k one))
+          (λ more. of-more lowest limit (in-others (k .interval) tones) (rest (k .interval) more))
           (List·Memᴰ·cases-cons h)
 
 module _ (wanted : ℕ) where

@@ -13,7 +13,7 @@ use native.Mathlib.Decide.{decLt}
 use native.Mathlib.Omega.{arith}
 use lib.Dec.{leb, ltb}
 use borrow.Author.Tests.{lt-ltb, le-ltb, lt-leb, le-leb}
-use Rattle.keys.specs.Choice.{keysFrom, keysOf, distance, ToneKey, toneKey, unlessNearer, nearest}
+use Rattle.keys.specs.Choice.{keysFrom, distance, ToneKey, toneKey, unlessNearer, nearest}
 use Rattle.keys.specs.private.Ranked.{octavesBelow, firstKey}
 use Rattle.keys.proofs.Winner.{unless-joins}
 

@@ -1,6 +1,5 @@
 -- Theorem on the keys of a tone.
 --     two-or-three    "two or three keys, never none": a note class has so many in the range
-use mathlib.Core.Path.{_≡_}
 use mathlib.Core.Bool.{Bool, _&&_}
 use Prim.Native.Nat.{ℕ, suc, _≤_, _<_}
 use lib.Dec.{T, leb, leb→le}

@@ -2,7 +2,7 @@
 --     earlier, joins    of two the later where it ranks less, else the earlier; of three, whichever two are joined first
 --     nearest-append    the nearest of two lists is that of their nearest
 --     is-one            the nearest of some keys is one of them
---     FromTone, from-tones    a key of some tones is a tone's: within the range, and some octaves above its class's own
+--     KeyOf, from-tones    a key of some tones is a tone's: within the range, and some octaves above its class's own
 use mathlib.Core.Path.{_≡_, refl, sym, ap, subst, _∙_}
 use mathlib.Core.Bool.{Bool, true, false, cond, _&&_}
 use mathlib.Core.List.{List, [], _∷_, _++_, List·Memᴰ, List·Memᴰ·head, List·Memᴰ·tail, List·Memᴰ·not-nil, List·Memᴰ·cases-cons, List·Memᴰ·append-cases, Memᴰ·of-map}
@@ -31,20 +31,14 @@ module _ {A : Type 0} (rank : A → ℕ) where
   joins a b c = by-order (decLt (rank b) (rank a)) (decLt (rank c) (rank b))
     where
       by-order : Dec (rank b < rank a) → Dec (rank c < rank b) → earlier (earlier a b) c ≡ earlier a (earlier b c)
-      by-order (yes h) (yes k) =
-          let less : rank c < rank a = omega arith in
-          ap (λ (x : A). earlier x c) (second a b h) ∙ second b c k ∙ sym (ap (earlier a) (second b c k) ∙ second a c less)
-      by-order (yes h) (no k) =
-          let more : rank b ≤ rank c = omega arith in
-          ap (λ (x : A). earlier x c) (second a b h) ∙ sym (ap (earlier a) (first b c more) ∙ second a b h ∙ sym (first b c more))
-      by-order (no h) (yes k) =
-          let more : rank a ≤ rank b = omega arith in
-          ap (λ (x : A). earlier x c) (first a b more) ∙ sym (ap (earlier a) (second b c k))
+      by-order (yes h) (yes k) = let less : rank c < rank a = omega arith in rw (second a b h, second b c k, second a c less)
+      by-order (yes h) (no k) = let more : rank b ≤ rank c = omega arith in rw (second a b h, first b c more, second a b h)
+      by-order (no h) (yes k) = let more : rank a ≤ rank b = omega arith in rw (first a b more, second b c k)
       by-order (no h) (no k) =
           let more : rank a ≤ rank b = omega arith in
           let most : rank b ≤ rank c = omega arith in
           let last : rank a ≤ rank c = omega arith in
-          ap (λ (x : A). earlier x c) (first a b more) ∙ first a c last ∙ sym (ap (earlier a) (first b c most) ∙ first a b more)
+          rw (first a b more, first b c most, first a b more, first a c last)
 
 module _ (wanted : ℕ) where
   pub unless-joins : (a b : ToneKey) (later : Option ToneKey)
@@ -114,27 +108,22 @@ module _ (lowest limit : ℕ) where
   unfolding keysOf
   is-key class key m = let from = is-from 18 (48 + class) key m in record { low = from .0; high = from .1; own = from .2; octaves = omega (arith, from .3) }
 
-  -- a tone of a list, of which it is a key
-  pub record FromTone (tones : List Tone) (k : ToneKey) : Type 0 where
+  -- a key of one of some tones
+  pub record KeyOf (tones : List Tone) (key : ℕ) : Type 0 where
     pub tone : Tone
     pub among : List·Memᴰ tone tones
-    pub interval-is : tone .interval ≡ k .interval
-    pub key-is : IsKey (tone .class) (k .key)
+    pub key-is : IsKey (tone .class) key
 
-  pub from-tones : (tones : List Tone) (k : ToneKey) → List·Memᴰ k (keysOfTones lowest limit tones) → FromTone tones k
+  -- so it is of more tones
+  pub of-more : {l m : List Tone} {key : ℕ} → ((t : Tone) → List·Memᴰ t l → List·Memᴰ t m) → KeyOf l key → KeyOf m key
+  of-more f k = record { tone = k .tone; among = f (k .tone) (k .among); key-is = k .key-is }
+
+  pub from-tones : (tones : List Tone) (k : ToneKey) → List·Memᴰ k (keysOfTones lowest limit tones) → KeyOf tones (k .key)
   unfolding keysOfTone keysOfTones
   from-tones [] k m = absurd (List·Memᴰ·not-nil m)
-  from-tones (t ∷ l) k m = ⊎-elim own (λ later. behind (from-tones l k later)) (List·Memᴰ·append-cases (keysOfTone lowest limit t) m)
+  from-tones (t ∷ l) k m = ⊎-elim own (λ later. of-more (λ x h. List·Memᴰ·tail h) (from-tones l k later)) (List·Memᴰ·append-cases (keysOfTone lowest limit t) m)
     where
-      own : List·Memᴰ k (keysOfTone lowest limit t) → FromTone (t ∷ l) k
+      own : List·Memᴰ k (keysOfTone lowest limit t) → KeyOf (t ∷ l) (k .key)
       own m =
           let one = Memᴰ·of-map (toneKey (t .interval)) (keysOf lowest limit (t .class)) m in
-          record {
-            tone = t;
-            among = List·Memᴰ·head refl;
-            interval-is = ap (λ (x : ToneKey). x .interval) (one .2);
-            key-is = subst (λ (x : ToneKey). IsKey (t .class) (x .key)) (one .2) (is-key (t .class) (one .0) (one .1));
-          }
-
-      behind : FromTone l k → FromTone (t ∷ l) k
-      behind there = record { tone = there .tone; among = List·Memᴰ·tail (there .among); interval-is = there .interval-is; key-is = there .key-is }
+          record { tone = t; among = List·Memᴰ·head refl; key-is = subst (λ (x : ToneKey). IsKey (t .class) (x .key)) (one .2) (is-key (t .class) (one .0) (one .1)) }

@@ -2,7 +2,7 @@
 --     bars-one        a tone bars its successor's interval and no other
 --     in-without      the tones that a lead leaves are of the pool
 --     IsLead, lead-is    the lead is a key of an unbarred tone, and none of theirs is nearer to the wanted one; or it is 0, and they have no key
-use mathlib.Core.Path.{_≡_, refl, sym}
+use mathlib.Core.Path.{_≡_, refl}
 use mathlib.Core.Bool.{Bool, true, false, not, cond, _&&_}
 use mathlib.Core.List.{List, [], _∷_, List·Memᴰ, List·Memᴰ·tail}
 use mathlib.Core.Logic.{_⊎_, inl, inr}
@@ -14,8 +14,8 @@ use Rattle.pool.specs.declared.pool.Tone.{Tone}
 use Rattle.pool.specs.Pool.{anyTone}
 use Rattle.keys.specs.Choice.{ToneKey, keysOfTones, distance, nearest, without, chosen}
 use Rattle.keys.proofs.Kept.{without-has}
-use Rattle.keys.proofs.Winner.{IsOne, is-one, from-tones}
-use Rattle.keys.proofs.Among.{one-of, KeyOf, IsLeast, none-nearer, no-keys}
+use Rattle.keys.proofs.Winner.{KeyOf, IsOne, is-one, from-tones}
+use Rattle.keys.proofs.Among.{one-of, IsLeast, none-nearer, no-keys}
 use Rattle.leads.specs.Lead.{rubs, unbarred, owns, withoutLast, leadOf}
 
 pub bars-one : (t next : Tone) (free k : ℕ) → rubs t next ≡ true → has (cond (rubs t next) (without (next .interval) free) free) k ≡ has free k && not (eqb k (next .interval))
@@ -56,6 +56,4 @@ module _ (lowest limit : ℕ) where
         by-case : (o : Option ToneKey) → nearest wanted freeKeys ≡ o → IsOne wanted freeKeys o → ((k : ToneKey) → List·Memᴰ k freeKeys → IsLeast wanted o k)
             → IsLead (Option·elim o 0 (λ (k : ToneKey). k .key)) ⊎ IsNoLead (Option·elim o 0 (λ (k : ToneKey). k .key))
         by-case none e one least = inr record { is-0 = refl; no-key = no-keys wanted freeKeys e }
-        by-case (some k) e one least =
-            let from = from-tones lowest limit free k one in
-            inl record { key-of = record { tone = from .tone; among = from .among; key-is = from .key-is }; none-nearer-is = least }
+        by-case (some k) e one least = inl record { key-of = from-tones lowest limit free k one; none-nearer-is = least }

@@ -1,13 +1,10 @@
 -- Laws of the tones of two ranges: as many as the shorter has.
 use mathlib.Core.Path.{_≡_, refl, ap}
-use mathlib.Core.Bool.{Bool, true, false, _&&_}
 use mathlib.Core.List.{List, [], _∷_}
-use Prim.Native.Nat.{ℕ, suc, _≤_, _<_}
+use Prim.Native.Nat.{ℕ, suc, _≤_}
 use native.Mathlib.Nat.{not-suc-le-zero, le-of-suc-le-suc}
 use native.Mathlib.Omega.{arith}
-use lib.Dec.{leb}
 use lib.ListN.{length, take}
-use borrow.Author.Tests.{lt-leb, le-leb}
 use Rattle.pool.specs.declared.pool.Tone.{Tone}
 use Rattle.pool.specs.Pool.{toneOf, tonesOf}
 

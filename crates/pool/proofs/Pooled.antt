@@ -12,7 +12,7 @@
 use mathlib.Core.Path.{_≡_, refl, sym, ap, ap₂, _∙_}
 use mathlib.Core.List.{List, [], _∷_, _++_}
 use Prim.Native.Nat.{ℕ, zero, suc, _≤_, _<_}
-use native.Mathlib.Nat.{min-eq-left, min-eq-right, le-of-lt}
+use native.Mathlib.Nat.{min-eq-left, min-eq-right}
 use native.Mathlib.Omega.{arith}
 use lib.ListN.{length, take, drop, length-take, length-append, length-drop, length-replicate, take-append-drop}
 use lib.Seq.{take-at, drop-at, take-all, length-take-le}

@@ -5,25 +5,25 @@
 --     above-sounds   so is each key above the bass, but for that 0
 --     midi-keys      where the highest is at most 127, no key of a voicing is above 127
 --     product-keys   so it is with the product's range
-use mathlib.Core.Path.{_≡_, refl, sym, ap, subst, _∙_}
-use mathlib.Core.Bool.{Bool, true, _&&_}
+use mathlib.Core.Path.{_≡_, sym, subst, _∙_}
+use mathlib.Core.Bool.{true, _&&_}
 use mathlib.Core.List.{List, [], _∷_, _++_, List·Memᴰ, List·Memᴰ·not-nil, List·Memᴰ·cases-cons, List·Memᴰ·append-cases, List·Memᴰ·eq-of-singleton}
 use mathlib.Core.Logic.{_⊎_, inl, inr, ⊎-elim}
 use Prim.Native.Nat.{ℕ, suc, _+_, _%_, _≤_, _<_}
 use native.Mathlib.Nat.{mod-eq-of-lt}
 use native.Mathlib.Omega.{arith}
-use lib.Dec.{T, leb, leb→le}
+use lib.Dec.{leb, leb→le}
 use Rattle.answer.proofs.Tests.{left, right, is-true, said}
 use Rattle.pool.specs.declared.pool.Tone.{Tone}
 use Rattle.pool.specs.Pool.{tonesOf}
 use Rattle.pool.specs.Order.{sorted}
 use Rattle.pool.proofs.Among.{in-sorted}
 use Rattle.keys.specs.Range.{lowestKey, highestKey}
-use Rattle.keys.specs.Choice.{chosen, placed}
-use Rattle.keys.proofs.Winner.{IsKey}
-use Rattle.keys.proofs.Among.{KeyOf, of-more, in-chosen, placed-from}
-use Rattle.leads.specs.Lead.{unbarred, withoutLast, leadOf}
-use Rattle.leads.proofs.Laws.{in-without, IsLead, IsNoLead, lead-is}
+use Rattle.keys.specs.Choice.{placed}
+use Rattle.keys.proofs.Winner.{KeyOf, of-more}
+use Rattle.keys.proofs.Among.{in-chosen, placed-from}
+use Rattle.leads.specs.Lead.{withoutLast, leadOf}
+use Rattle.leads.proofs.Laws.{in-without, IsNoLead, lead-is}
 use Rattle.voicings.specs.declared.voicing.Bass.{Bass}
 use Rattle.voicings.specs.declared.voicing.Bass.the-variants as Bass
 use Rattle.voicings.specs.declared.voicing.Chord.{Chord}
@@ -66,15 +66,15 @@ module _ (lowest highest : ℕ) (tones : List Tone) (classes-are : (t : Tone) �
   module _ (pool : List Tone) (of-chord : (t : Tone) → List·Memᴰ t pool → List·Memᴰ t tones) where
     pub guide-sounds : (key : ℕ) → List·Memᴰ key (guideKeys lowest (suc highest) pool) → Sounds lowest highest tones key
     unfolding guideKeys placed
-    guide-sounds key h = sounds (omega arith) (of-more (λ t m. of-chord t (in-chosen _ _ pool t m)) (placed-from lowest (suc highest) 0 _ _ key h))
+    guide-sounds key h = sounds (omega arith) (of-more _ _ (λ t m. of-chord t (in-chosen _ _ pool t m)) (placed-from lowest (suc highest) 0 _ _ key h))
 
     pub tension-sounds : (lead : ℕ) → lead ≤ suc highest → (key : ℕ) → List·Memᴰ key (tensionKeys lowest lead pool) → Sounds lowest highest tones key × (key < lead)
     unfolding tensionKeys placed
     tension-sounds lead most key h =
-        let k = placed-from lowest lead lead _ _ key h in (sounds most (of-more (λ t m. of-chord t (in-chosen _ _ pool t m)) k), k .key-is .high)
+        let k = placed-from lowest lead lead _ _ key h in (sounds most (of-more _ _ (λ t m. of-chord t (in-chosen _ _ pool t m)) k), k .key-is .high)
 
     pub lead-sounds : (wanted : ℕ) → Sounds lowest highest tones (leadOf lowest (suc highest) wanted pool) ⊎ IsNoLead lowest (suc highest) wanted pool (leadOf lowest (suc highest) wanted pool)
-    lead-sounds wanted = ⊎-elim (λ is. inl (sounds (omega arith) (of-more (λ t m. of-chord t (in-chosen _ _ pool t m)) (is .key-of)))) (λ no. inr no) (lead-is lowest (suc highest) wanted pool)
+    lead-sounds wanted = ⊎-elim (λ is. inl (sounds (omega arith) (of-more _ _ (λ t m. of-chord t (in-chosen _ _ pool t m)) (is .key-of)))) (λ no. inr no) (lead-is lowest (suc highest) wanted pool)
 
 -- the keys below the guides: a class from 36 on, and one from 48 on
 bass-low : (root : ℕ) (bass : Bass) → root ≤ 11 → isBass bass ≡ true → (key : ℕ) → List·Memᴰ key (bassKeys root bass) → key ≤ 59

@@ -19,7 +19,7 @@ use Rattle.pool.specs.private.Places.{tonesIn, blank}
 use Rattle.keys.specs.Choice.{ToneKey, keysOfTones, nearest, without, chosen}
 use Rattle.keys.specs.private.Ranked.{nothing, offered, nearestOf}
 use Rattle.leads.specs.Lead.{leadOf}
-use Rattle.keys.proofs.Best.{best, found-near}
+use Rattle.keys.proofs.Best.{best, search-turn, found-near}
 use Rattle.pool.proofs.Left.{next, none as no-more}
 use Rattle.leads.proofs.lead.lead_key.Statement.{statement}
 use Rattle.leads.proofs.lead.lead_key.Tie as tie
@@ -40,25 +40,29 @@ none-in : (k : ℕ) → has 0 k ≡ false
 unfolding has
 none-in k = ap (λ (x : ℕ). eqb (x % 2) 1) (zero-div (2 ^ k))
 
-chosen-free : (free : ℕ) (t : Tone) (l : List Tone) → chosen free 0 (t ∷ l) ≡ cond (has free (t .interval)) (t ∷ chosen free 0 l) (chosen free 0 l)
-unfolding chosen without
-chosen-free free t l = rw (none-in (t .interval), or-false (has free (t .interval)))
+-- what a tone offers stands before the others' where its interval is free
+module _ (near : Tone → Offer) (free : ℕ) where
+  abbrev offered-by : List Tone → List Offer
+  offered-by tones = map near (chosen free 0 tones)
 
-module _ (lowest limit wanted free : ℕ) (tones : List Tone) (found : Offer) (i n : ℕ) (less : i < n) (fits : n ≤ length tones) where
-  abbrev this : Tone
-  this = getD tones i blank
+  chosen-free : (t : Tone) (l : List Tone) → offered-by (t ∷ l) ≡ cond (has free (t .interval)) (near t ∷ offered-by l) (offered-by l)
+  unfolding chosen without
+  chosen-free t l = rw (none-in (t .interval), or-false (has free (t .interval))) (by-member (has free (t .interval)))
+    where
+      by-member : (m : Bool) → map near (cond m (t ∷ chosen free 0 l) (chosen free 0 l)) ≡ cond m (near t ∷ offered-by l) (offered-by l)
+      by-member true = refl
+      by-member false = refl
 
-  abbrev step : bestFree lowest limit wanted free found (slice i n tones) ≡ best found (map (nearestOf lowest limit wanted) (cond (has free (this .interval)) (this ∷ chosen free 0 (slice (i + 1) n tones)) (chosen free 0 (slice (i + 1) n tones))))
-  step = ap (bestFree lowest limit wanted free found) (next tones i n blank less fits) ∙ ap (λ (x : List Tone). best found (map (nearestOf lowest limit wanted) x)) (chosen-free free this (slice (i + 1) n tones))
-
-  -- the tone's offer is found where it ranks less and its interval is free
-  turn : (a m : Bool) → ltb (nearestOf lowest limit wanted this .rank) (found .rank) ≡ a → has free (this .interval) ≡ m
-      → bestFree lowest limit wanted free (cond (a && m) (nearestOf lowest limit wanted this) found) (slice (i + 1) n tones) ≡ bestFree lowest limit wanted free found (slice i n tones)
-  unfolding best
-  turn true true e f = sym (step ∙ rw f (ap (λ (b : Bool). bestFree lowest limit wanted free (cond b (nearestOf lowest limit wanted this) found) (slice (i + 1) n tones)) e))
-  turn true false e f = sym (step ∙ rw f)
-  turn false true e f = sym (step ∙ rw f (ap (λ (b : Bool). bestFree lowest limit wanted free (cond b (nearestOf lowest limit wanted this) found) (slice (i + 1) n tones)) e))
-  turn false false e f = sym (step ∙ rw f)
+  -- it is found where it ranks less, too
+  turn : (tones : List Tone) (found : Offer) (i n : ℕ) → i < n → n ≤ length tones → (less member : Bool)
+      → ltb (near (getD tones i blank) .rank) (found .rank) ≡ less → has free (getD tones i blank .interval) ≡ member
+      → best (cond (less && member) (near (getD tones i blank)) found) (offered-by (slice (i + 1) n tones)) ≡ best found (offered-by (slice i n tones))
+  turn tones found i n h k less member e f =
+      let this = getD tones i blank in
+      let rest = slice (i + 1) n tones in
+      search-turn (near this) found (offered-by rest) less member e
+      ∙ sym (ap (λ (l : List Tone). best found (offered-by l)) (next tones i n blank h k) ∙ ap (best found) (chosen-free this rest)
+      ∙ ap (λ (b : Bool). best found (cond b (near this ∷ offered-by rest) (offered-by rest))) f)
 
 loop-again : tie.Need-loop-again Inv-loop μ-loop
 loop-again c =
@@ -68,7 +72,7 @@ loop-again c =
     let s = c .before .before .before .before .before .before .before .before .before .before in
     let member = c .before .in-set in
     let less = ap (λ (o : Offer). ltb (o .rank) (l .found .rank)) (near .ensures) in
-    let found = turn (s .args .lowest) (s .args .limit) (s .args .wanted) free (s .args .t1 .tones) (l .found) (l .i) (s .args .t1 .count) (omega arith) (omega arith) (ltb (near .result .rank) (l .found .rank)) (member .result) (sym less) (sym (member .ensures)) in
+    let found = turn (nearestOf (s .args .lowest) (s .args .limit) (s .args .wanted)) free (s .args .t1 .tones) (l .found) (l .i) (s .args .t1 .count) (omega arith) (omega arith) (ltb (near .result .rank) (l .found .rank)) (member .result) (sym less) (sym (member .ensures)) in
     ⊎-elim
     (λ w. (omega arith, rw (w .1 ∙ near .ensures) (rw (w .0 .taken) at found) ∙ l .inv .1))
     (λ w. (omega arith, rw (w .1) (rw (w .0 .left) at found) ∙ l .inv .1))
