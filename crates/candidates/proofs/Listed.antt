@@ -20,7 +20,7 @@ use Rattle.intervals.specs.Sets.{has}
 use Rattle.notes.specs.declared.note.Note.{Note}
 use Rattle.names.specs.Names.{nameOf}
 use Rattle.names.proofs.Named.{areBrief, name-short, name-length}
-use Rattle.rules.proofs.Short.{suffix-short}
+use Rattle.rules.proofs.Short.{suffix-reached}
 use Rattle.candidates.specs.Keys.{seenFrom, classSet, firsts}
 use Rattle.candidates.specs.Candidates.{chord, over, line, lines, allLines, candidatesOf}
 use Rattle.candidates.specs.private.Finds.{Classes}
@@ -36,11 +36,11 @@ module _ (table : List Note) (brief : T (areBrief table)) (class word : ℕ) (e 
 
 -- a class of a set as a root, with a name of at most two bytes
 module _ (name : List ℕ) (two : length name ≤ 2) (set class : ℕ) (small : class < 12) (heard : has set class ≡ true) where
-  pub chord-length : length (chord name set class) ≤ 66
+  pub chord-length : length (chord name set class) ≤ 29
   unfolding chord
-  chord-length = simp length-append (omega (arith, suffix-short (seenFrom class set) (seen-rooted class set heard small)))
+  chord-length = simp length-append (omega (arith, suffix-reached (seenFrom class set) (seen-rooted class set heard small)))
 
-  pub line-length : (behind : List ℕ) → length behind ≤ 3 → length (line name set behind class) ≤ 70
+  pub line-length : (behind : List ℕ) → length behind ≤ 3 → length (line name set behind class) ≤ 33
   unfolding line
   line-length behind h = simp length-append (omega (arith, chord-length))
 
@@ -75,7 +75,7 @@ module _ (table : List Note) (set : ℕ) (order : List ℕ) where
       by-list (c ∷ more) e = absurd (let no-way : ⊥ = omega arith in no-way)
 
 module _ (table : List Note) (brief : T (areBrief table)) where
-  lines-length : (set : ℕ) (behind : List ℕ) → length behind ≤ 3 → (classes : List ℕ) → Classes set classes → length (lines table set behind classes) ≤ 70 * length classes
+  lines-length : (set : ℕ) (behind : List ℕ) → length behind ≤ 3 → (classes : List ℕ) → Classes set classes → length (lines table set behind classes) ≤ 33 * length classes
   unfolding lines
   lines-length set behind h [] k = omega arith
   lines-length set behind h (c ∷ more) k =
@@ -83,7 +83,7 @@ module _ (table : List Note) (brief : T (areBrief table)) where
       let rest = lines-length set behind h more (λ i l. k (suc i) (suc-le-suc l)) in
       simp length-append (omega (arith, rest, line-length (nameOf table c) (name-length table brief c) set c (first .0) (first .1) behind h))
 
-  all-length : (set : ℕ) (classes : List ℕ) → Classes set classes → length (allLines table set classes) ≤ 70 * length classes
+  all-length : (set : ℕ) (classes : List ℕ) → Classes set classes → length (allLines table set classes) ≤ 33 * length classes
   unfolding allLines
   all-length set [] k = omega arith
   all-length set (first ∷ rest) k =

@@ -44,7 +44,7 @@ fn put_line(out: &mut [u8], name: u64, class: u32, set: u32, behind: u64) -> usi
 
 // The candidates of the classes of a set, in their order: each goes into the part of `out` that is still free.
 fn put_lines(out: &mut [u8], order: &[u8], set: u32) -> usize
-    requires { ⌜ (set < 4096) × (length (now order) ≤ 12) × Classes set (now order) × (850 ≤ length (now out)) ⌝ }
+    requires { ⌜ (set < 4096) × (length (now order) ≤ 12) × Classes set (now order) × (448 ≤ length (now out)) ⌝ }
     ensures { λ r. ⌜ Writes (now (out .entry)) 0 (allLines flats set (now (order .entry))) r (now (out .exit)) ⌝ }
 {
     if order.len() == 0 {
@@ -70,8 +70,8 @@ fn wide(class: u8) -> u32
     class as u32
 }
 
-// Twelve lines of at most 70 bytes, and a word that is stored whole.
-const ROOM: usize = 850;
+// Twelve lines of at most 33 bytes, and what a suffix wants free behind the last name.
+const ROOM: usize = 448;
 
 // The candidates of a list of keys, a line each.
 pub fn candidates(keys: &[u8], out: &mut [u8]) -> Output

@@ -36,7 +36,7 @@ left set root order i = lines table set (over (nameOf table root)) (drop i order
 
 abbrev Inv-loop : tie.InvT-loop
 Inv-loop out₀ order set root first behind used₀ i₀ out used i =
-    SoFar out₀ used₀ (left set root order 1) out used (left set root order i) × (used ≤ 70 * i) × (i ≤ length order)
+    SoFar out₀ used₀ (left set root order 1) out used (left set root order i) × (used ≤ 33 * i) × (i ≤ length order)
 
 abbrev μ-loop : tie.MeasureT-loop
 μ-loop out₀ order set root first behind used₀ i₀ out used i = length order - i
@@ -124,8 +124,8 @@ wrote-next c =
     part-puts (l .loop .out) (l .loop .used) (length (l .loop .out) - l .loop .used) (omega (arith, roomy (w .before .before)))
     (same-text (ap₂ (λ (t u : List ℕ). line t (s .args .set) u (w .wide2 .result)) name behind) (c .put-line2 .ensures)) (c .put-line2 .kept .0)
 
--- which has at most 70 bytes
-short-next : (c : tie.After-put-line2 Inv-loop μ-loop) → c .put-line2 .result ≤ 70
+-- which has at most 33 bytes
+short-next : (c : tie.After-put-line2 Inv-loop μ-loop) → c .put-line2 .result ≤ 33
 short-next c =
     let w = c .before .before .before in
     let l = w .before .before .before in
