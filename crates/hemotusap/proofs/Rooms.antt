@@ -1,7 +1,7 @@
 -- A room as large as the header names is enough for every answer of its call: the answer there is the one that no room's size is in, so that none is refused
 -- for want of room.
 use Rattle.answer.proofs.Kit.{_≡_, List, ℕ, _≤_, length}
-use Rattle.answer.specs.Replies.{Reply, text, outputOf, AtMost, unhindered}
+use Rattle.answer.specs.Replies.{Reply, text, outputOf, unhindered}
 use Rattle.answer.proofs.Rooms.{roomy}
 use Rattle.rules.specs.Suffix.{suffixReply}
 use Rattle.rules.proofs.Short.{suffix-room}

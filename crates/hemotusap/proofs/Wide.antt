@@ -4,14 +4,14 @@
 --     fits-less              a narrow signed number is a wide one
 --     fits-sum               a number below 2^40 and a narrow signed one, added
 --     output-fits            the count of bytes written is at most the room
-use mathlib.Core.Path.{_≡_, refl, sym, ap, subst, _∙_}
+use mathlib.Core.Path.{_≡_, refl, sym, subst}
 use mathlib.Core.Bool.{Bool, true, false, cond}
 use mathlib.Core.List.{List}
 use Prim.Native.Nat.{ℕ, zero, suc, _+_, _-_, _^_, _<_, _≤_}
 use native.Mathlib.Decide.{decLt}
 use native.Mathlib.Omega.{arith}
-use lib.Dec.{leb, leb→le, T}
-use lib.IntN.{ℤ, pos, negsuc, negℤ, _+ℤ_, +ℤ-idl}
+use lib.Dec.{leb→le}
+use lib.IntN.{ℤ, pos, negsuc, negℤ, _+ℤ_}
 use lib.ListN.{length}
 use lib.Signed.{mag}
 use mir.Syntax.{w32, w64}

@@ -10,8 +10,7 @@ use lib.ListN.{getD}
 use Rattle.answer.specs.Words.{bytes, same}
 use Rattle.answer.specs.Replies.{text}
 use Rattle.answer.proofs.Tests.{left, right as right′, same→eq}
-use Rattle.intervals.specs.Sets.{isSet, has, isRooted, isIn}
-use Rattle.intervals.specs.Intervals.{intervals, nth, numbered, setOf}
+use Rattle.intervals.specs.Sets.{isSet, isRooted, isIn}
 use Rattle.qualities.specs.Qualities.{qualityAnswer}
 use Rattle.rules.specs.Suffix.{suffixOf, suffixReply}
 use Rattle.rules.proofs.Computed.{suffix-computed}

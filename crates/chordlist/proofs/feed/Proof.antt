@@ -1,5 +1,5 @@
 -- `chordlist::feed` meets its contract. The loop's invariant: the line holds what is kept after the first `i` bytes.
-use mathlib.Core.Path.{_≡_, refl, sym, ap, _∙_}
+use mathlib.Core.Path.{_≡_, refl, sym, _∙_}
 use Prim.Native.Nat.{_-_, _≤_}
 use native.Mathlib.Omega.{arith}
 use lib.ListN.{length as size, take}

@@ -1,9 +1,6 @@
 -- `answer::word::put` meets its contract: eight stores in a row, of the digits of the word.
-use mathlib.Core.Path.{_≡_, ap, sym, _∙_}
-use Prim.Native.Nat.{ℕ, _+_, _<_, _≤_}
 use native.Mathlib.Omega.{arith}
-use lib.ListN.{length, length-set}
-use denote.Ref.{now}
+use lib.ListN.{length-set}
 use borrow.Author.Needs.{needs}
 use Rattle.answer.proofs.Digits.{put-nothing, put-whole}
 use Rattle.answer.proofs.word.put.Statement.{statement}

@@ -1,5 +1,5 @@
 -- `candidates::lines::put_line` meets its contract: a name, a suffix behind it, what stands behind that, and a line feed.
-use mathlib.Core.Path.{_≡_, refl, subst}
+use mathlib.Core.Path.{refl, subst}
 use mathlib.Core.List.{[], _∷_}
 use Prim.Native.Nat.{ℕ, _+_, _≤_}
 use native.Mathlib.Omega.{arith}
@@ -13,7 +13,6 @@ use Rattle.answer.proofs.Texts.{text-length, put-word}
 use Rattle.answer.proofs.Writing.{also, put-short}
 use Rattle.rules.specs.Suffix.{suffixOf}
 use Rattle.inference.proofs.Puts.{put-at}
-use Rattle.candidates.specs.Keys.{seenFrom}
 use Rattle.candidates.specs.Candidates.{chord, line}
 use Rattle.candidates.proofs.Listed.{chord-length}
 use Rattle.candidates.proofs.Turned.{seen-rooted}

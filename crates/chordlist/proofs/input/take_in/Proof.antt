@@ -1,5 +1,5 @@
 -- `chordlist::input::take_in` meets its contract: by the byte, and by whether it has room.
-use mathlib.Core.Path.{_≡_, sym}
+use mathlib.Core.Path.{sym}
 use native.Mathlib.Omega.{arith}
 use lib.ListN.{take}
 use lib.Seq.{length-take-le}

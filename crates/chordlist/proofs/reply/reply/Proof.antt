@@ -1,5 +1,5 @@
 -- `chordlist::reply::reply` meets its contract: by the line's length, and by what it holds.
-use mathlib.Core.Path.{_≡_, refl, ap, sym, subst, _∙_}
+use mathlib.Core.Path.{_≡_, sym, subst}
 use mathlib.Core.Logic.{⊎-elim}
 use mathlib.Core.List.{List, [], _∷_}
 use Prim.Native.Nat.{ℕ, _<_, _≤_}
@@ -11,11 +11,10 @@ use borrow.Author.Needs.{needs}
 use borrow.Author.Tests.{le-leb, lt-leb}
 use Rattle.answer.specs.Words.{bytes}
 use Rattle.names.specs.Names.{flats}
-use Rattle.chordlist.specs.Codes.{Line, bad, holds, codesIn}
+use Rattle.chordlist.specs.Codes.{bad, holds, codesIn}
 use Rattle.chordlist.specs.private.Calls.{Reads}
 use Rattle.chordlist.specs.Replies.{codesText, badText, heldText, lineText}
 use Rattle.chordlist.specs.declared.codes.Codes.{Codes}
-use Rattle.chordlist.specs.declared.codes.Codes.the-variants.{Read, Bad}
 use Rattle.chordlist.proofs.Printing.{two-more}
 use Rattle.chordlist.proofs.reply.reply.Statement.{statement}
 use Rattle.chordlist.proofs.reply.reply.Tie as tie

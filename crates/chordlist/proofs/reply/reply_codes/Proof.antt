@@ -1,5 +1,5 @@
 -- `chordlist::reply::reply_codes` meets its contract: candidates have at most 840 bytes, and so there is room for them and the stop.
-use mathlib.Core.Path.{_≡_, refl, ap, sym, subst, _∙_}
+use mathlib.Core.Path.{_≡_, sym, subst, _∙_}
 use mathlib.Core.List.{List, [], _∷_, _++_, append-assoc}
 use Prim.Native.Nat.{ℕ, _+_, _≤_}
 use native.Mathlib.Omega.{arith}

@@ -1,8 +1,8 @@
 -- `hemotusap::host::moved` meets its contract: by the answer's case.
-use mathlib.Core.Path.{_≡_, ap, sym, _∙_}
+use mathlib.Core.Path.{ap, sym, _∙_}
 use mir.Facts.{toZ-ofZ}
 use borrow.Author.Needs.{needs}
-use Rattle.hemotusap.specs.Host.{refusalNumber, noteNumber, noteAnswerNumber}
+use Rattle.hemotusap.specs.Host.{noteAnswerNumber}
 use Rattle.hemotusap.proofs.host.moved.Statement.{statement}
 use Rattle.hemotusap.proofs.host.moved.Tie as tie
 

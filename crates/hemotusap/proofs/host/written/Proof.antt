@@ -1,5 +1,5 @@
 -- `hemotusap::host::written` meets its contract: by the answer's case.
-use mathlib.Core.Path.{_≡_, ap, sym, subst, _∙_}
+use mathlib.Core.Path.{ap, sym, subst, _∙_}
 use mir.Facts.{toZ-ofZ}
 use borrow.Author.Needs.{needs}
 use Rattle.hemotusap.specs.Host.{Fits, outputNumber}

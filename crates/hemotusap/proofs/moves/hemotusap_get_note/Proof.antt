@@ -1,6 +1,5 @@
 -- `hemotusap::moves::hemotusap_get_note` meets its contract.
-use mathlib.Core.Path.{_≡_, ap, _∙_}
-use lib.IntN.{ℤ}
+use mathlib.Core.Path.{ap, _∙_}
 use mir.Facts.{toZ-ofZ}
 use borrow.Author.Needs.{needs}
 use Rattle.notes.specs.Notes.{noteOf, getNoteAnswer}

@@ -1,5 +1,5 @@
 -- `hemotusap::moves::hemotusap_transpose` meets its contract.
-use mathlib.Core.Path.{_≡_, ap, ap₂, _∙_}
+use mathlib.Core.Path.{ap, ap₂, _∙_}
 use mir.Facts.{toZ-ofZ}
 use borrow.Author.Needs.{needs}
 use Rattle.notes.specs.Notes.{noteOf, transposeAnswer}

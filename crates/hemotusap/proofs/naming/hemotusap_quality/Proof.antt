@@ -1,5 +1,5 @@
 -- `hemotusap::naming::hemotusap_quality` meets its contract.
-use mathlib.Core.Path.{_≡_, ap, _∙_}
+use mathlib.Core.Path.{ap, _∙_}
 use mir.Facts.{toZ-ofZ}
 use borrow.Author.Needs.{needs}
 use Rattle.hemotusap.specs.Host.{qualityNumber}
