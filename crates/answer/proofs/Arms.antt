@@ -1,9 +1,6 @@
 -- The last arm of a `match` on a number below n, whose other arms have the numbers below n in order, is never taken.
 --     Nones, nones     the number is none of those below n
-use mathlib.Core.Path.{_≡_}
-use mathlib.Core.Logic.{⊎-elim}
-use Prim.Native.Nat.{ℕ, zero, suc, _<_}
-use native.Mathlib.Nat.{eq-or-lt-of-le, le-of-suc-le-suc, not-suc-le-zero}
+use Rattle.answer.proofs.Kit.{_≡_, ⊎-elim, ℕ, zero, suc, _<_, eq-or-lt-of-le, le-of-suc-le-suc, not-suc-le-zero}
 
 abbrev pub Nones : ℕ → ℕ → Type 0
 Nones k zero = Unit {0}

@@ -2,11 +2,7 @@
 --     test       one test: x where a is b, else y
 --     yes        the test passes, and decides
 --     no-then    it does not, and the rest decides
-use mathlib.Core.Path.{_≡_, sym, ap, _∙_}
-use mathlib.Core.Bool.{Bool, cond}
-use Prim.Native.Nat.{ℕ}
-use lib.Dec.{eqb}
-use borrow.Author.Tests.{eq-eqb, ne-eqb}
+use Rattle.answer.proofs.Kit.{_≡_, sym, ap, _∙_, Bool, cond, ℕ, eqb, eq-eqb, ne-eqb}
 
 unfoldable pub test : {A : Type 0} → ℕ → ℕ → A → A → A
 test a b x y = cond (eqb a b) x y

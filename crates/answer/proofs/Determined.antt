@@ -4,10 +4,7 @@
 --     Decides        a contract, as its function's proof and its callers read it (`Post`), allows one answer to each call
 --     DecidesWith    and one content of the range that it was lent
 --     F-decides      the contract of `F` does
-use mathlib.Core.Path.{_≡_, sym, _∙_}
-use mathlib.Core.List.{List}
-use Prim.Native.Nat.{ℕ}
-use denote.Ref.{now}
+use Rattle.answer.proofs.Kit.{_≡_, sym, _∙_, List, ℕ, now}
 use Rattle.answer.proofs.refusal.Refusal.number.Reads as number
 use Rattle.answer.proofs.output.give.Reads as give
 use Rattle.answer.proofs.word.put.Reads as put

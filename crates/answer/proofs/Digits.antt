@@ -5,18 +5,7 @@
 --     isShort        a text that a word can hold
 --     put-text       such a text's word, put at a place, adds the text to what stands before the place
 --     put-first      and put first, it is the text
-use mathlib.Core.Path.{_≡_, refl, ap, ap₂, subst, _∙_}
-use mathlib.Core.Bool.{Bool, true, _&&_}
-use mathlib.Core.List.{List, [], _∷_, _++_}
-use Prim.Native.Nat.{ℕ, zero, suc, _+_, _*_, _/_, _%_, _-_, _^_, _≤_, _<_}
-use native.Mathlib.Omega.{arith}
-use native.Mathlib.Nat.{zero-add, div-div-eq-div-mul, mod-eq-of-lt, not-suc-le-zero, le-of-suc-le-suc, lt-of-lt-of-le, pow-succ', pow-le-pow-right, mul-assoc}
-use lib.Pow.{pow-add}
-use native.Mathlib.Numerals.{unary-clauses}
-use borrow.Author.Tests.{le-leb, lt-leb}
-use lib.Dec.{T, leb, ltb, ltb→lt, leb→le, lit<}
-use lib.ListN.{length, take, drop, set, length-append}
-use lib.Seq.{sets, sets-eq, length-take-le, take-append-le, take-append-add}
+use Rattle.answer.proofs.Kit.{_≡_, refl, ap, ap₂, subst, _∙_, Bool, true, _&&_, List, [], _∷_, _++_, ℕ, zero, suc, _+_, _*_, _/_, _%_, _-_, _^_, _≤_, _<_, arith, zero-add, div-div-eq-div-mul, mod-eq-of-lt, not-suc-le-zero, le-of-suc-le-suc, lt-of-lt-of-le, pow-succ', pow-le-pow-right, mul-assoc, pow-add, unary-clauses, le-leb, lt-leb, T, leb, ltb, ltb→lt, leb→le, lit<, length, take, drop, set, length-append, sets, sets-eq, length-take-le, take-append-le, take-append-add}
 use Rattle.answer.proofs.Tests.{left, right}
 use Rattle.answer.specs.Words.{low, packed, digits, long, placeAfter, putAt}
 

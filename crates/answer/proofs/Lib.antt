@@ -1,3 +1,4 @@
+pub mod Kit
 pub mod Rooms
 pub mod Digits
 pub mod Writing

@@ -1,13 +1,7 @@
 -- A text that goes into a part of a buffer, from a place on.
 --     part-puts       it stands behind what stands below the place
 --     part-long       how long such a part is at least
-use mathlib.Core.Path.{_≡_, refl, sym, ap, subst, _∙_}
-use mathlib.Core.List.{List, _++_, append-assoc}
-use Prim.Native.Nat.{ℕ, _+_, _-_, _≤_}
-use native.Mathlib.Nat.{zero-add}
-use native.Mathlib.Omega.{arith}
-use lib.ListN.{length, take, drop, length-take, length-drop, take-append-drop}
-use lib.Seq.{length-take-le, take-append-add, take-at}
+use Rattle.answer.proofs.Kit.{_≡_, refl, sym, ap, subst, _∙_, List, _++_, append-assoc, ℕ, _+_, _-_, _≤_, zero-add, arith, length, take, drop, length-take, length-drop, take-append-drop, length-take-le, take-append-add, take-at}
 use borrow.Rule.Slice.PartMut.{putMid, postOf, midOf, same-len-mid}
 use Rattle.answer.specs.Written.{Writes}
 use Rattle.answer.proofs.Writing.{Puts}

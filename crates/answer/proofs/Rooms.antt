@@ -5,14 +5,7 @@
 --     written       a text that has room stands at the front
 --     roomy         a room of so many bytes is enough for a text of at most so many
 --     copied        a turn of the loop that writes it
-use mathlib.Core.Path.{_≡_, refl, sym, subst}
-use mathlib.Core.List.{List, _++_}
-use Prim.Native.Nat.{ℕ, _+_, _≤_, _<_}
-use native.Mathlib.Nat.{zero-add, le-trans}
-use native.Mathlib.Numerals.{add-one}
-use lib.ListN.{length, take, drop, getD, set}
-use lib.Seq.{paste-suc}
-use borrow.Author.Tests.{le-leb, lt-leb}
+use Rattle.answer.proofs.Kit.{_≡_, refl, sym, subst, List, _++_, ℕ, _+_, _≤_, _<_, zero-add, le-trans, add-one, length, take, drop, getD, set, paste-suc, le-leb, lt-leb}
 use Rattle.answer.specs.Replies.{Reply, refuse, text, outputOf, roomAfter, Answered, AtMost, unhindered}
 use Rattle.answer.specs.declared.refusal.Refusal.{Refusal}
 use Rattle.answer.specs.declared.refusal.Refusal.the-variants.{NoRoom}

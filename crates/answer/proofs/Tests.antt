@@ -5,14 +5,7 @@
 --     refused, admitted                what a negated test in the code told
 --     all, at        a test of one number
 --     same→eq, eq→same  two texts that are the same are equal, and the other way
-use mathlib.Core.Path.{_≡_, refl, sym, subst, ap₂, _∙_}
-use mathlib.Core.Bool.{Bool, true, false, not, _&&_}
-use mathlib.Core.Logic.{⊎-elim}
-use mathlib.Core.List.{List, [], _∷_}
-use Prim.Native.Nat.{ℕ, zero, suc, _<_}
-use native.Mathlib.Nat.{eq-or-lt-of-le, le-of-suc-le-suc, not-suc-le-zero}
-use lib.Dec.{T, eqb, eqb→eq}
-use borrow.Author.Tests.{eq-eqb, not-true, not-false}
+use Rattle.answer.proofs.Kit.{_≡_, refl, sym, subst, ap₂, _∙_, Bool, true, false, not, _&&_, ⊎-elim, List, [], _∷_, ℕ, zero, suc, _<_, eq-or-lt-of-le, le-of-suc-le-suc, not-suc-le-zero, T, eqb, eqb→eq, eq-eqb, not-true, not-false}
 use Rattle.answer.specs.Words.{same}
 
 pub left : (a b : Bool) → T (a && b) → T a

@@ -2,15 +2,7 @@
 --     text-length            as long as the word says
 --     word-long, word-text   a short text's word holds it
 --     put-word               a word that is put at a place that has room adds its text
-use mathlib.Core.Path.{_≡_, sym, ap, subst, _∙_}
-use mathlib.Core.List.{List, _++_}
-use Prim.Native.Nat.{ℕ, _+_, _≤_}
-use native.Mathlib.Omega.{arith}
-use native.Mathlib.Nat.{zero-add}
-use lib.Dec.{T}
-use lib.ListN.{length, take, drop, replicate, length-append}
-use lib.Seq.{length-take-le, take-append-le, take-append-add}
-use borrow.Author.Tests.{le-leb}
+use Rattle.answer.proofs.Kit.{_≡_, sym, ap, subst, _∙_, List, _++_, ℕ, _+_, _≤_, arith, zero-add, T, length, take, drop, replicate, length-append, length-take-le, take-append-le, take-append-add, le-leb}
 use Rattle.answer.specs.Words.{packed, digits, long, placeAfter, putAt, textOf}
 use Rattle.answer.specs.Written.{Writes}
 use Rattle.answer.proofs.Digits.{isShort, place-text, put-text}

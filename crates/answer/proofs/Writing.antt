@@ -7,14 +7,7 @@
 --     put-short   a short text's word, put at a place that has room
 --     Puts        the same of a buffer that keeps its length: no-puts, then-puts, and then-put of a word
 --     SoFar       a text on its way, part by part: so-far-none, so-far-next, so-far-all, and the room that is left
-use mathlib.Core.Path.{_≡_, refl, sym, ap, subst, _∙_}
-use mathlib.Core.List.{List, [], _++_, append-nil, append-assoc}
-use Prim.Native.Nat.{ℕ, _+_, _≤_}
-use native.Mathlib.Omega.{arith}
-use native.Mathlib.Nat.{add-zero, add-assoc, zero-add}
-use lib.Dec.{T}
-use lib.ListN.{length, take, drop, length-append, length-take}
-use lib.Seq.{sets, sets-eq, length-take-le, take-at}
+use Rattle.answer.proofs.Kit.{_≡_, refl, sym, ap, subst, _∙_, List, [], _++_, append-nil, append-assoc, ℕ, _+_, _≤_, arith, add-zero, add-assoc, zero-add, T, length, take, drop, length-append, length-take, sets, sets-eq, length-take-le, take-at}
 use Rattle.answer.specs.Words.{packed, placeAfter, putAt}
 use Rattle.answer.specs.Written.{Writes}
 use Rattle.answer.proofs.Digits.{isShort, place-text, put-text}

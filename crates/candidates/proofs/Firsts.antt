@@ -4,17 +4,7 @@
 --     room            a class that has not occurred has a place among twelve
 --     found-old, found-new     a key whose class has occurred, and one whose class has not
 --     bit-held        the bit of a key's class, as the code shifts it
-use mathlib.Core.Path.{_≡_, refl, sym, ap, subst, _∙_}
-use mathlib.Core.Bool.{true, false}
-use mathlib.Core.List.{List, [], _∷_, _++_}
-use Prim.Native.Nat.{ℕ, _+_, _*_, _%_, _^_, _<_, _≤_}
-use native.Mathlib.Nat.{one-mul}
-use native.Mathlib.Numerals.{add-one}
-use native.Mathlib.Omega.{arith}
-use lib.Dec.{lit<}
-use lib.ListN.{length, take, getD, set, length-append}
-use lib.Pow.{shl-exact}
-use lib.Seq.{take-suc, take-suc-set}
+use Rattle.answer.proofs.Kit.{_≡_, refl, sym, ap, subst, _∙_, true, false, List, [], _∷_, _++_, ℕ, _+_, _*_, _%_, _^_, _<_, _≤_, one-mul, add-one, arith, lit<, length, take, getD, set, length-append, shl-exact, take-suc, take-suc-set}
 use Rattle.intervals.specs.Sets.{has, isIn}
 use Rattle.candidates.specs.Keys.{keyClass, setBelow, setWhere, classSet, newBehind, firsts}
 use Rattle.candidates.specs.private.Finds.{Finds}

@@ -5,17 +5,8 @@
 --     set-count, firsts-few    there are as many as the set has, and at most twelve
 --     set-of-firsts            the set depends on the first occurrences alone
 --     firsts-classes           which are classes of it
-use mathlib.Core.Path.{_≡_, refl, sym, ap, _∙_}
-use mathlib.Core.Bool.{Bool, true, false, cond, _||_, or-true, or-false, or-assoc, or-comm}
-use mathlib.Core.List.{List, [], _∷_, _++_, map, append-nil, map-append}
-use Prim.Native.Nat.{ℕ, zero, suc, _+_, _^_, _<_, _≤_}
-use native.Mathlib.Nat.{le-of-suc-le-suc, not-suc-le-zero}
-use native.Mathlib.Omega.{arith}
-use lib.Count.{ones, ones-le}
-use lib.Dec.{eqb}
-use lib.ListN.{length, take, getD, length-append}
-use lib.Seq.{take-suc, take-length}
-use borrow.Author.Tests.{eq-eqb, eqb-true}
+use Rattle.answer.proofs.Kit.{_≡_, refl, sym, ap, _∙_, Bool, true, false, cond, _||_, or-true, or-false, or-assoc, List, [], _∷_, _++_, map, append-nil, map-append, ℕ, zero, suc, _+_, _^_, _<_, _≤_, le-of-suc-le-suc, not-suc-le-zero, arith, ones, ones-le, eqb, length, take, getD, length-append, take-suc, take-length, eq-eqb, eqb-true}
+use mathlib.Core.Bool.{or-comm}
 use Rattle.answer.proofs.Tests.{said}
 use Rattle.intervals.specs.Sets.{has, isIn}
 use Rattle.intervals.proofs.Members.{joined-ones}

@@ -1,11 +1,5 @@
 -- Laws of the candidates that their readers rely on, for any table of brief names.
-use mathlib.Core.Path.{_≡_, refl, sym, ap, ap₂, _∙_}
-use mathlib.Core.Bool.{true}
-use mathlib.Core.List.{List, [], _∷_}
-use Prim.Native.Nat.{ℕ, suc, _<_, suc-le-suc}
-use native.Mathlib.Omega.{arith}
-use lib.Dec.{T}
-use lib.ListN.{length}
+use Rattle.answer.proofs.Kit.{_≡_, refl, sym, ap, ap₂, _∙_, true, List, [], _∷_, ℕ, suc, _<_, suc-le-suc, arith, T, length}
 use Rattle.answer.specs.Words.{bytes}
 use Rattle.answer.specs.Lines.{lineFeeds}
 use Rattle.answer.proofs.Feeds.{feeds-append}

@@ -4,15 +4,7 @@
 --     one-line, all-lines     the lines from a class on, and all of them
 --     none-listed             where there is no class there is no line
 --     candidates-length       the candidates of any list have at most 840 bytes
-use mathlib.Core.Path.{_≡_, refl, sym, ap, ap₂, _∙_}
-use mathlib.Core.Bool.{true}
-use mathlib.Core.List.{List, [], _∷_, _++_}
-use Prim.Native.Nat.{ℕ, suc, _+_, _*_, _<_, _≤_, suc-le-suc}
-use native.Mathlib.Numerals.{add-one}
-use native.Mathlib.Omega.{arith}
-use lib.Dec.{T}
-use lib.ListN.{length, drop, getD, length-append}
-use lib.Seq.{drop-cons}
+use Rattle.answer.proofs.Kit.{_≡_, refl, sym, ap, ap₂, _∙_, true, List, [], _∷_, _++_, ℕ, suc, _+_, _*_, _<_, _≤_, suc-le-suc, add-one, arith, T, length, drop, getD, length-append, drop-cons}
 use Rattle.answer.specs.Words.{bytes, packed, long, textOf}
 use Rattle.answer.specs.Written.{Writes}
 use Rattle.answer.proofs.Texts.{word-long, word-text}

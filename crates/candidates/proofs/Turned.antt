@@ -3,14 +3,7 @@
 --     seen-less        it is a set
 --     seen-rooted      seen from one of its classes, it is rooted
 --     seen-next        one class more of the walk, as the code adds it
-use mathlib.Core.Path.{_≡_, refl, ap, _∙_}
-use mathlib.Core.Bool.{Bool, true, false, cond}
-use Prim.Native.Nat.{ℕ, _+_, _*_, _/_, _%_, _^_, _<_, _≤_}
-use native.Mathlib.Nat.{zero-mul, one-mul}
-use native.Mathlib.Numerals.{add-one}
-use native.Mathlib.Omega.{arith}
-use lib.Pow.{shl-exact}
-use borrow.Author.Tests.{le-leb}
+use Rattle.answer.proofs.Kit.{_≡_, refl, ap, _∙_, Bool, true, false, cond, ℕ, _+_, _*_, _/_, _%_, _^_, _<_, _≤_, zero-mul, one-mul, add-one, arith, shl-exact, le-leb}
 use Rattle.intervals.specs.Sets.{isSet, has, isRooted}
 use Rattle.intervals.proofs.Members.{held, absent}
 use Rattle.candidates.specs.Keys.{setBelow, seenFrom}

@@ -3,15 +3,7 @@
 --     below-same                 tests that agree give one set
 --     where-less, where-says     the same of all twelve
 --     where-joined               a test that takes one class more
-use mathlib.Core.Path.{_≡_, refl, sym, ap, ap₂, subst, _∙_}
-use mathlib.Core.Bool.{Bool, true, false, cond, _||_}
-use mathlib.Core.Logic.{⊎-elim}
-use Prim.Native.Nat.{ℕ, zero, suc, _+_, _^_, _<_}
-use native.Mathlib.Nat.{eq-or-lt-of-le, le-of-suc-le-suc, not-suc-le-zero, div-eq-of-lt, add-zero, add-right-comm, pow-suc}
-use native.Mathlib.Omega.{arith}
-use lib.Dec.{eqb, lit<}
-use lib.Pow.{pow-pos}
-use borrow.Author.Tests.{eq-eqb, ne-eqb}
+use Rattle.answer.proofs.Kit.{_≡_, refl, sym, ap, ap₂, subst, _∙_, Bool, true, false, cond, _||_, ⊎-elim, ℕ, zero, suc, _+_, _^_, _<_, eq-or-lt-of-le, le-of-suc-le-suc, not-suc-le-zero, div-eq-of-lt, add-zero, add-right-comm, pow-suc, arith, eqb, lit<, pow-pos, eq-eqb, ne-eqb}
 use Rattle.intervals.specs.Sets.{has}
 use Rattle.intervals.proofs.Members.{joined-has, missing}
 use Rattle.candidates.specs.Keys.{setBelow, setWhere}

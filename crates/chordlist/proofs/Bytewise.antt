@@ -3,15 +3,7 @@
 --     silent                any other byte has nothing printed
 --     kept, full            it is kept where it has room, and else dropped
 --     none-taken, one-taken     before the first byte of a piece, and behind one more
-use mathlib.Core.Path.{_≡_, refl, sym, ap, _∙_}
-use mathlib.Core.List.{List, [], _∷_, _++_}
-use Prim.Native.Nat.{ℕ, suc, _+_, _<_, _≤_}
-use native.Mathlib.Nat.{zero-add}
-use native.Mathlib.Numerals.{add-one}
-use native.Mathlib.Omega.{arith}
-use lib.ListN.{length, take, drop, getD, set, length-append, take-append-drop}
-use lib.Seq.{take-all, take-append-le, length-take-le, take-suc, set-split, append-snoc}
-use borrow.Author.Tests.{eq-eqb, ne-eqb}
+use Rattle.answer.proofs.Kit.{_≡_, refl, sym, ap, _∙_, List, [], _∷_, _++_, ℕ, suc, _+_, _<_, _≤_, zero-add, add-one, arith, length, take, drop, getD, set, length-append, take-append-drop, take-all, take-append-le, length-take-le, take-suc, set-split, append-snoc, eq-eqb, ne-eqb}
 use Rattle.notes.specs.declared.note.Note.{Note}
 use Rattle.answer.specs.Written.{Writes}
 use Rattle.chordlist.specs.Replies.{lineText}

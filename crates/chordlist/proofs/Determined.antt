@@ -2,11 +2,7 @@
 -- call, and one content of the ranges that it is lent.
 --     take-in-decides, finish-decides, reply-decides     the answer, and every byte lent
 --     feed-decides       the answer, and the bytes that are kept: those behind them are of earlier lines
-use mathlib.Core.Path.{_≡_, ap₂}
-use mathlib.Core.List.{List}
-use Prim.Native.Nat.{ℕ}
-use lib.ListN.{take}
-use denote.Ref.{now}
+use Rattle.answer.proofs.Kit.{_≡_, ap₂, List, ℕ, take, now}
 use Rattle.answer.specs.declared.output.Output.{Output}
 use Rattle.answer.specs.declared.output.Output.the-variants.{Written}
 use Rattle.answer.proofs.Determined.{DecidesWith, determined}

@@ -3,9 +3,7 @@
 --     onto-part    where there is a first part
 --     onto-none    where there is none
 --     onto-byte    a text and a byte in front, one after the other
-use mathlib.Core.Path.{_≡_, refl, ap}
-use mathlib.Core.List.{List, [], _∷_, _++_}
-use Prim.Native.Nat.{ℕ}
+use Rattle.answer.proofs.Kit.{_≡_, refl, ap, List, [], _∷_, _++_, ℕ}
 use Rattle.chordlist.specs.Parts.{withByte}
 
 unfoldable pub onto : List ℕ → List (List ℕ) → List (List ℕ)

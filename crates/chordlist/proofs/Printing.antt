@@ -3,16 +3,7 @@
 --     no-text        a text of no bytes is printed by leaving all as it is
 --     by-count       a text printed, from its length and what the range holds
 --     two-more       two bytes stored behind a text
-use mathlib.Core.Path.{_≡_, refl, sym, ap, _∙_}
-use mathlib.Core.Bool.{Bool, true, false}
-use mathlib.Core.List.{List, [], _∷_, _++_}
-use Prim.Native.Nat.{ℕ, _+_, _≤_}
-use native.Mathlib.Omega.{arith}
-use native.Mathlib.Numerals.{unary-clauses}
-use lib.Dec.{leb}
-use lib.ListN.{length, take, drop, set, length-append, length-drop}
-use lib.Seq.{sets, sets-eq, take-at, take-append-seam, drop-append-add, drop-drop}
-use borrow.Author.Tests.{leb-true}
+use Rattle.answer.proofs.Kit.{_≡_, refl, sym, ap, _∙_, Bool, true, false, List, [], _∷_, _++_, ℕ, _+_, _≤_, arith, unary-clauses, leb, length, take, drop, set, length-append, length-drop, sets, sets-eq, take-at, take-append-seam, drop-append-add, drop-drop, leb-true}
 use Rattle.answer.specs.Replies.{outputOf, roomAfter}
 use Rattle.answer.specs.declared.output.Output.the-variants.{Written, Refused}
 use Rattle.answer.specs.declared.refusal.Refusal.the-variants.{NoRoom}

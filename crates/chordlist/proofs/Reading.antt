@@ -7,17 +7,7 @@
 --     no-space, no-code     a byte that is neither, and a space behind no code
 --     place          a code at the end has a place among 512
 --     read, cut      at the end: behind a code, and behind none
-use mathlib.Core.Path.{_≡_, refl, sym, ap, _∙_}
-use mathlib.Core.Bool.{Bool, true, false, cond, _&&_, and-true, and-false, and-assoc}
-use mathlib.Core.List.{List, [], _∷_, _++_, append-nil}
-use Prim.Native.Nat.{ℕ, _+_, _-_, _*_, _%_, _^_, _<_, _≤_}
-use native.Mathlib.Nat.{pow-suc, pow-le-pow-right, mod-eq-of-lt, lt-of-lt-of-le}
-use native.Mathlib.Numerals.{add-one}
-use native.Mathlib.Omega.{arith}
-use lib.Dec.{eqb, leb, ltb, leb→le, ltb→lt, lit<}
-use lib.ListN.{length, take, drop, getD, set, length-append}
-use lib.Seq.{drop-cons, drop-length, take-suc-set}
-use borrow.Author.Tests.{eq-eqb, ne-eqb, le-leb, lt-leb, ltb-false}
+use Rattle.answer.proofs.Kit.{_≡_, refl, sym, ap, _∙_, Bool, true, false, cond, _&&_, and-true, and-false, and-assoc, List, [], _∷_, _++_, append-nil, ℕ, _+_, _-_, _*_, _%_, _^_, _<_, _≤_, pow-suc, pow-le-pow-right, mod-eq-of-lt, lt-of-lt-of-le, add-one, arith, eqb, leb, ltb, leb→le, ltb→lt, lit<, length, take, drop, getD, set, length-append, drop-cons, drop-length, take-suc-set, eq-eqb, ne-eqb, le-leb, lt-leb, ltb-false}
 use Rattle.answer.proofs.Tests.{left, right, said, is-true}
 use Rattle.chordlist.specs.Parts.{withByte, parts}
 use Rattle.chordlist.specs.Codes.{Line, bad, holds, space, digit0, isDigit, areDigits, decimal, isCode, withCode, codesOf, codesIn}

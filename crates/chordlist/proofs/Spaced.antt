@@ -1,14 +1,7 @@
 -- A line holds codes exactly when it is their texts with one space between.
 --     spaced-read    such a line is read
 --     read-spaced    and a line that is read is such
-use mathlib.Core.Path.{_≡_, refl, sym, ap, ap₂, _∙_}
-use mathlib.Core.Bool.{Bool, true, false, cond, _&&_}
-use mathlib.Core.List.{List, [], _∷_, _++_, map, append-nil}
-use Prim.Native.Nat.{ℕ, _<_}
-use native.Mathlib.Omega.{arith}
-use lib.Dec.{eqb, leb, ltb, leb→le, ltb→lt}
-use lib.ListN.{length, length-append}
-use borrow.Author.Tests.{ne-eqb, eqb-true}
+use Rattle.answer.proofs.Kit.{_≡_, refl, sym, ap, ap₂, _∙_, Bool, true, false, cond, _&&_, List, [], _∷_, _++_, map, append-nil, ℕ, _<_, arith, eqb, leb, ltb, leb→le, ltb→lt, length, length-append, ne-eqb, eqb-true}
 use Rattle.answer.proofs.Tests.{left, right, said, is-true}
 use Rattle.chordlist.specs.Parts.{withByte, parts, joined}
 use Rattle.chordlist.specs.Codes.{Line, bad, holds, space, isDigit, areDigits, decimal, isCode, areCodes, Spaced, withCode, codesOf, codesIn}

@@ -4,16 +4,7 @@
 --     held-append     what is kept after two pieces
 --     held-short      no more is kept than there is room for
 --     in-pieces       pieces of an input, one after the other, and then its end print `inputText` of the whole
-use mathlib.Core.Path.{_≡_, refl, sym, ap, ap₂, _∙_}
-use mathlib.Core.Bool.{Bool, true, false}
-use mathlib.Core.Logic.{_⊎_, inl, inr, ⊎-elim}
-use mathlib.Core.List.{List, [], _∷_, _++_, append-nil, append-assoc, flatMap, flatten}
-use Prim.Native.Nat.{ℕ, _≤_, _<_}
-use native.Mathlib.Omega.{arith}
-use lib.Dec.{eqb, leb}
-use lib.ListN.{length, take, length-take}
-use lib.Seq.{take-all, take-append-le, length-take-le}
-use borrow.Author.Tests.{lt-leb, leb-true, leb-false}
+use Rattle.answer.proofs.Kit.{_≡_, refl, sym, ap, ap₂, _∙_, Bool, true, false, _⊎_, inl, inr, ⊎-elim, List, [], _∷_, _++_, append-nil, append-assoc, flatMap, flatten, ℕ, _≤_, _<_, arith, eqb, leb, length, take, length-take, take-all, take-append-le, length-take-le, lt-leb, leb-true, leb-false}
 use Rattle.notes.specs.declared.note.Note.{Note}
 use Rattle.chordlist.specs.Parts.{parts}
 use Rattle.chordlist.specs.Replies.{lineText}

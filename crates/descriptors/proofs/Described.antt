@@ -1,13 +1,10 @@
 -- A description by its steps: what each step is told makes the whole.
 --     split        what the extensions become
 --     described    at a rooted set the descriptor
-use mathlib.Core.Path.{_≡_, ap, ap₂, _∙_}
-use mathlib.Core.Bool.{Bool, true}
-use Prim.Native.Nat.{ℕ}
-use lib.Bits.{bitAnd, bitOr}
+use Rattle.answer.proofs.Kit.{_≡_, ap, ap₂, _∙_, Bool, true, ℕ, bitAnd, bitOr}
 use Rattle.intervals.specs.Sets.{isRooted}
 use Rattle.intervals.specs.Intervals.{setOf}
-use Rattle.intervals.specs.declared.interval.Numbered.{Numbered}
+use Rattle.intervals.specs.declared.interval.MaybeInterval.{MaybeInterval}
 use Rattle.qualities.specs.Masks.{ownBits, alterationBits, extensionBits, stackBits}
 use Rattle.qualities.specs.declared.quality.ChordQuality.{ChordQuality}
 use Rattle.intervals.specs.declared.interval.Interval.the-variants.{Ninth}
@@ -23,7 +20,7 @@ use Rattle.descriptors.specs.Kinds.{kindOf}
 use Rattle.descriptors.specs.private.Split.{missedBy, Splits}
 use Rattle.descriptors.specs.Descriptors.{descriptorOf}
 
-pub split : (q : ChordQuality) (row : Kind) → row ≡ kindOf q → (a e u stack own : ℕ) (m : Numbered) (found nine : ℕ)
+pub split : (q : ChordQuality) (row : Kind) → row ≡ kindOf q → (a e u stack own : ℕ) (m : MaybeInterval) (found nine : ℕ)
     → u ≡ unstackedFrom (bitOr a e) (row .3) stack → stack ≡ stackBits q → own ≡ ownBits q
     → m ≡ modifierFrom (row .5) e u → found ≡ addsFrom (row .5) e u own → nine ≡ nineFrom (row .4) found → Splits q a e m found nine
 split q row t a e u stack own m found nine hu hs ho hm hf hn =
@@ -37,7 +34,7 @@ split q row t a e u stack own m found nine hu hs ho hm hf hn =
 
 module _ (s : ℕ) (is : isRooted s ≡ true) where
   -- of its intervals and quality, the masks, what the steps gave
-  pub described : (i : ℕ) (q : ChordQuality) (altered extended e : ℕ) (m : Numbered) (found behind third noThird noFifth : ℕ)
+  pub described : (i : ℕ) (q : ChordQuality) (altered extended e : ℕ) (m : MaybeInterval) (found behind third noThird noFifth : ℕ)
       → i ≡ setOf (intervalsOf s) → q ≡ suffixQuality s → altered ≡ alterationBits q → extended ≡ extensionBits q → e ≡ extensionsFrom i extended
       → Splits q (bitAnd i altered) e m found behind
       → third ≡ lastFrom (susFrom s) i → noThird ≡ omittedThirdFrom s → noFifth ≡ omittedFifthFrom i

@@ -3,10 +3,7 @@
 --     rooted          the descriptor
 --     described       where a descriptor is answered, the number is a rooted set, and the descriptor its own
 --     refused         where a refusal is, it is none
-use mathlib.Core.Path.{_≡_, refl}
-use mathlib.Core.Bool.{Bool, true, false}
-use Prim.Native.Nat.{ℕ}
-use native.Mathlib.Omega.{arith}
+use Rattle.answer.proofs.Kit.{_≡_, refl, Bool, true, false, ℕ, arith}
 use Rattle.answer.specs.declared.refusal.Refusal.{Refusal}
 use Rattle.answer.specs.declared.refusal.Refusal.the-variants.{NotASet}
 use Rattle.intervals.specs.Sets.{isRooted}

@@ -1,10 +1,7 @@
 -- The quality that a set shows: a set with a third put in is a set, so it has a quality.
 --     shown      where an answer is a quality, it is the one shown
 --     refused    it is no refusal
-use mathlib.Core.Path.{_≡_, ap, _∙_}
-use Prim.Native.Nat.{ℕ, _<_}
-use native.Mathlib.Omega.{arith}
-use borrow.Author.Tests.{le-leb}
+use Rattle.answer.proofs.Kit.{_≡_, ap, _∙_, ℕ, _<_, arith, le-leb}
 use Rattle.answer.specs.declared.refusal.Refusal.{Refusal}
 use Rattle.intervals.specs.Sets.{isSet}
 use Rattle.qualities.specs.Qualities.{qualityOf, qualityAnswer}

@@ -17,8 +17,8 @@ use intervals::interval::MAJOR_SEVENTH;
 use intervals::interval::MAJOR_SIXTH;
 use intervals::interval::MAJOR_THIRD;
 use intervals::interval::MINOR_THIRD;
+use intervals::interval::MaybeInterval;
 use intervals::interval::NINTH;
-use intervals::interval::Numbered;
 use intervals::interval::PERFECT_FIFTH;
 use intervals::interval::SHARP_ELEVENTH;
 use intervals::interval::SHARP_NINTH;
@@ -55,7 +55,7 @@ pub struct Descriptor {
     pub intervals: u32,
     pub quality: ChordQuality,
     pub sus: bool,
-    pub modifier: Numbered,
+    pub modifier: MaybeInterval,
     pub alterations: u32,
     pub adds: u32,
     pub nine: u32,
@@ -70,7 +70,7 @@ pub enum DescriptorAnswer {
 
 // What the extensions become: the last that is stacked, the adds, and of these the 9 behind the `6`.
 pub struct Split {
-    pub modifier: Numbered,
+    pub modifier: MaybeInterval,
     pub adds: u32,
     pub nine: u32,
 }
@@ -121,23 +121,23 @@ fn unstacked(named: u32, own: u32, stack: u32) -> u32
 }
 
 // The last of the extensions that are stacked: 13, or else 11, or else 9.
-fn modifier(diminished: bool, extensions: u32, unstacked: u32) -> Numbered
+fn modifier(diminished: bool, extensions: u32, unstacked: u32) -> MaybeInterval
     ensures { λ r. ⌜ r ≡ modifierFrom diminished extensions unstacked ⌝ }
 {
     if diminished {
-        return Numbered::Nothing;
+        return MaybeInterval::Nothing;
     }
     let stacked = extensions & !(unstacked | MAJOR_SEVENTH);
     if stacked >= THIRTEENTH {
-        return Numbered::Is(Interval::Thirteenth);
+        return MaybeInterval::Is(Interval::Thirteenth);
     }
     if stacked >= ELEVENTH {
-        return Numbered::Is(Interval::Eleventh);
+        return MaybeInterval::Is(Interval::Eleventh);
     }
     if stacked >= NINTH {
-        return Numbered::Is(Interval::Ninth);
+        return MaybeInterval::Is(Interval::Ninth);
     }
-    Numbered::Nothing
+    MaybeInterval::Nothing
 }
 
 // No quality is made of class 2 or 5: of the extensions only a 13 can be its own.

@@ -1,6 +1,6 @@
 -- Determinacy of the boundary's contracts (`Rattle.answer.proofs.Determined` has the law).
 --     F-decides      the contract of `F` allows one answer to each call, and one content of the range that it is lent
-use denote.Ref.{now}
+use Rattle.answer.proofs.Kit.{now}
 use Rattle.answer.proofs.Determined.{Decides, DecidesWith, determined, both}
 use Rattle.hemotusap.proofs.naming.hemotusap_quality.Reads as quality
 use Rattle.hemotusap.proofs.moves.hemotusap_get_note.Reads as get-note

@@ -4,19 +4,9 @@
 --     fits-less              a narrow signed number is a wide one
 --     fits-sum               a number below 2^40 and a narrow signed one, added
 --     output-fits            the count of bytes written is at most the room
-use mathlib.Core.Path.{_≡_, refl, sym, subst}
-use mathlib.Core.Bool.{Bool, true, false, cond}
-use mathlib.Core.List.{List}
-use Prim.Native.Nat.{ℕ, zero, suc, _+_, _-_, _^_, _<_, _≤_}
-use native.Mathlib.Decide.{decLt}
-use native.Mathlib.Omega.{arith}
-use lib.Dec.{leb→le}
-use lib.IntN.{ℤ, pos, negsuc, negℤ, _+ℤ_}
-use lib.ListN.{length}
-use lib.Signed.{mag}
+use Rattle.answer.proofs.Kit.{_≡_, refl, sym, subst, Bool, true, false, cond, List, ℕ, zero, suc, _+_, _-_, _^_, _<_, _≤_, decLt, arith, leb→le, ℤ, pos, negsuc, negℤ, _+ℤ_, length, mag, lt-ltb, le-ltb}
 use mir.Syntax.{w32, w64}
 use mir.Val.{SFits, toZ}
-use borrow.Author.Tests.{lt-ltb, le-ltb}
 use Rattle.answer.specs.Replies.{Reply, refuse, text, fits, outputOf}
 use Rattle.answer.specs.declared.refusal.Refusal.the-variants.{NoRoom}
 use Rattle.answer.specs.declared.output.Output.{Output}

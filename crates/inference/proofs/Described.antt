@@ -2,12 +2,7 @@
 --     head-told        what stands before the parentheses
 --     parts-told       what stands in them
 --     small-told       its sets are of the 23 intervals
-use mathlib.Core.Path.{_≡_, refl, ap₂, _∙_}
-use mathlib.Core.Bool.{Bool, true, false, not, _||_}
-use mathlib.Core.List.{List, _++_}
-use Prim.Native.Nat.{ℕ}
-use lib.Bits.{bitAnd, bitXor}
-use lib.Dec.{eqb}
+use Rattle.answer.proofs.Kit.{_≡_, refl, ap₂, _∙_, Bool, true, false, not, _||_, List, _++_, ℕ, bitAnd, bitXor, eqb}
 use Rattle.intervals.specs.Sets.{isRooted}
 use Rattle.intervals.specs.Intervals.{setOf}
 use Rattle.intervals.proofs.Rows.{set-small}

@@ -1,7 +1,7 @@
 -- Determinacy of the crate's public contracts (`Rattle.answer.proofs.Determined` has the law).
 --     F-decides      the contract of `F` allows one answer to each call, and one content of the range that it is lent; of `put_suffix` the content
 --                    up to its answer (Puts.antt, `one-put`)
-use denote.Ref.{now}
+use Rattle.answer.proofs.Kit.{now}
 use Rattle.answer.proofs.Determined.{Decides, DecidesWith, both}
 use Rattle.inference.proofs.Puts.{one-put}
 use Rattle.inference.proofs.normalize.suffix.Reads as suffix

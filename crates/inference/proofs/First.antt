@@ -3,23 +3,12 @@
 --     first-of   the count of zeros below the lowest bit finds it
 --     lowest-of, number-small, bit, bit-within, less      a turn of a loop that takes it: its number, its bit as the code has it (a 1,
 --                shifted), and what is left once it is taken
-use mathlib.Core.Path.{_≡_, refl, sym, ap, subst, _∙_}
-use mathlib.Core.Bool.{Bool, true, cond, _&&_}
-use mathlib.Core.List.{List, [], _∷_}
-use mathlib.Core.Logic.{⊎-elim}
-use Prim.Native.Nat.{ℕ, zero, suc, _*_, _/_, _%_, _-_, _^_, _≤_, _<_}
-use native.Mathlib.Omega.{arith}
-use native.Mathlib.Nat.{pow-suc, div-div-eq-div-mul, div-one, eq-or-lt-of-le, not-suc-le-zero, le-of-suc-le-suc, mod-eq-of-lt, one-mul}
-use lib.Count.{trailingZeros, under}
-use lib.Dec.{T, eqb, eqb→eq}
-use lib.ListN.{length}
-use lib.Pow.{pow-pos}
-use borrow.Author.Tests.{eq-eqb, ne-eqb}
+use Rattle.answer.proofs.Kit.{_≡_, refl, sym, ap, subst, _∙_, Bool, true, cond, _&&_, List, [], _∷_, ⊎-elim, ℕ, zero, suc, _*_, _/_, _%_, _-_, _^_, _≤_, _<_, arith, pow-suc, div-div-eq-div-mul, div-one, eq-or-lt-of-le, not-suc-le-zero, le-of-suc-le-suc, mod-eq-of-lt, one-mul, trailingZeros, under, T, eqb, eqb→eq, length, pow-pos, eq-eqb, ne-eqb}
 use Rattle.answer.proofs.Tests.{left, right}
 use Rattle.intervals.specs.Sets.{has}
 use Rattle.intervals.specs.Intervals.{intervals, nth, numbered, numberOf}
 use Rattle.intervals.specs.declared.interval.Interval.{Interval}
-use Rattle.intervals.specs.declared.interval.Numbered.the-variants.{Is}
+use Rattle.intervals.specs.declared.interval.MaybeInterval.the-variants.{Is}
 use Rattle.rules.specs.Classes.{keep, intervalsIn}
 
 -- the members of a list at whose places a number has a bit

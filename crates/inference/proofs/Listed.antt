@@ -3,15 +3,7 @@
 --     Listing     parts are written from the place where the parentheses begin
 --     fits        the room that more parts have
 --     closed      what closes them makes the whole
-use mathlib.Core.Path.{_≡_, refl, sym, ap, subst, _∙_}
-use mathlib.Core.Bool.{Bool, true, false, cond}
-use mathlib.Core.List.{List, [], _∷_, _++_, append-assoc}
-use Prim.Native.Nat.{ℕ, _+_, _≤_}
-use native.Mathlib.Omega.{arith}
-use native.Mathlib.Nat.{add-zero, zero-add}
-use lib.Dec.{eqb}
-use lib.ListN.{length, length-append}
-use borrow.Author.Tests.{eq-eqb, ne-eqb}
+use Rattle.answer.proofs.Kit.{_≡_, refl, sym, ap, subst, _∙_, Bool, true, false, cond, List, [], _∷_, _++_, append-assoc, ℕ, _+_, _≤_, arith, add-zero, zero-add, eqb, length, length-append, eq-eqb, ne-eqb}
 use Rattle.answer.specs.Words.{bytes, placeAfter, putAt}
 use Rattle.rules.specs.Suffix.{listed, close, parenthesized}
 use Rattle.answer.specs.Written.{Writes}

@@ -4,13 +4,7 @@
 --     placed       both
 --     put-at       what is told of a rooted set with room
 --     one-put      two that are told of one call agree, up to the place behind the suffix
-use mathlib.Core.Path.{_≡_, refl, sym, ap₂, _∙_}
-use mathlib.Core.Bool.{Bool, true, false, and-false}
-use mathlib.Core.List.{List}
-use Prim.Native.Nat.{ℕ, _+_, _≤_, _<_}
-use native.Mathlib.Omega.{arith}
-use lib.ListN.{length, take}
-use borrow.Author.Tests.{le-leb, lt-leb}
+use Rattle.answer.proofs.Kit.{_≡_, refl, sym, ap₂, _∙_, Bool, true, false, and-false, List, ℕ, _+_, _≤_, _<_, arith, length, take, le-leb, lt-leb}
 use Rattle.answer.specs.Written.{Writes}
 use Rattle.answer.proofs.Tests.{said}
 use Rattle.intervals.specs.Sets.{isRooted}

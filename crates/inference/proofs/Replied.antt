@@ -1,9 +1,7 @@
 -- What a call for a suffix has to give, by the test on its number.
 --     not-rooted      refusal 1
 --     rooted          the suffix
-use mathlib.Core.Path.{_≡_}
-use mathlib.Core.Bool.{true, false}
-use Prim.Native.Nat.{ℕ}
+use Rattle.answer.proofs.Kit.{_≡_, true, false, ℕ}
 use Rattle.answer.specs.Replies.{refuse, text}
 use Rattle.answer.specs.declared.refusal.Refusal.the-variants.{NotASet}
 use Rattle.intervals.specs.Sets.{isRooted}

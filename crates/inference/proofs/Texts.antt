@@ -1,17 +1,13 @@
 -- The texts of a suffix are short.
-use mathlib.Core.Path.{_≡_, refl}
-use mathlib.Core.Bool.{Bool, true, false, cond}
-use mathlib.Core.List.{List, [], _∷_}
-use Prim.Native.Nat.{ℕ}
-use lib.Dec.{T}
+use Rattle.answer.proofs.Kit.{_≡_, refl, Bool, true, false, cond, List, [], _∷_, ℕ, T}
 use Rattle.answer.specs.Words.{bytes, low, packed}
 use Rattle.answer.proofs.Digits.{areBytes, isShort}
 use Rattle.answer.proofs.Tests.{all}
 use Rattle.intervals.specs.Intervals.{intervals, nth, numbered, notationOf}
 use Rattle.intervals.proofs.Rows.{at-interval}
 use Rattle.intervals.specs.declared.interval.Interval.{Interval}
-use Rattle.intervals.specs.declared.interval.Numbered.{Numbered}
-use Rattle.intervals.specs.declared.interval.Numbered.the-variants.{Is, Nothing}
+use Rattle.intervals.specs.declared.interval.MaybeInterval.{MaybeInterval}
+use Rattle.intervals.specs.declared.interval.MaybeInterval.the-variants.{Is, Nothing}
 use Rattle.qualities.specs.declared.quality.ChordQuality.{ChordQuality}
 use Rattle.qualities.specs.declared.quality.ChordQuality.the-variants.{Maj, Maj6, Maj7, Dominant7, Mi, Mi6, Mi7, MiMaj7, Augmented, Diminished, Diminished7, Power, Bass}
 use Rattle.rules.specs.Stack.{isOneOf}
@@ -72,7 +68,7 @@ unfolding bytes areBytes isShort low packed
 sus-word b = either-word b record { short = tt; is = refl } no-word
 
 -- a modifier's word by the row of its quality
-pub modifier-word : (q : ChordQuality) (shows : Bool) (without : ℕ) (m : Numbered) → shows ≡ showsModifier q → without ≡ packed (unmodified q)
+pub modifier-word : (q : ChordQuality) (shows : Bool) (without : ℕ) (m : MaybeInterval) → shows ≡ showsModifier q → without ≡ packed (unmodified q)
     → IsWord (modified q m) (modifierWord shows without m)
 unfolding bytes areBytes isShort
 modifier-word q shows without (Is i) e f = rw e (either-word (showsModifier q) record { short = notation-short i; is = refl } no-word)
@@ -82,7 +78,7 @@ modifier-word q shows without Nothing e f = record { short = either-short (isOne
     either-short true = tt
     either-short false = tt
 
-pub or-nothing-short : (m : Numbered) → T (isShort (orElse "" m))
+pub or-nothing-short : (m : MaybeInterval) → T (isShort (orElse "" m))
 unfolding bytes areBytes isShort
 or-nothing-short (Is i) = notation-short i
 or-nothing-short Nothing = tt

@@ -1,14 +1,6 @@
 -- The loop of `put_parts`: where it stands, and what a turn does.
 --     Turn, begin, turn, end      a turn writes the part of the first interval that is left
-use mathlib.Core.Path.{_≡_, ap, _∙_}
-use mathlib.Core.Bool.{Bool, true, false, cond}
-use mathlib.Core.List.{List, [], _++_, append-assoc}
-use Prim.Native.Nat.{ℕ, _+_, _*_, _%_, _-_, _^_, _≤_, _<_}
-use native.Mathlib.Omega.{arith}
-use lib.Count.{trailingZeros}
-use lib.Dec.{eqb}
-use lib.ListN.{length, length-append}
-use borrow.Author.Tests.{ne-eqb}
+use Rattle.answer.proofs.Kit.{_≡_, ap, _∙_, Bool, true, false, cond, List, [], _++_, append-assoc, ℕ, _+_, _*_, _%_, _-_, _^_, _≤_, _<_, arith, trailingZeros, eqb, length, length-append, ne-eqb}
 use Rattle.answer.specs.Words.{bytes}
 use Rattle.intervals.specs.Intervals.{numbered}
 use Rattle.rules.specs.Classes.{intervalsIn}

@@ -1,5 +1,5 @@
 // The texts that a suffix is made of, as words (`answer::word`).
-use intervals::interval::Numbered;
+use intervals::interval::MaybeInterval;
 ghost use mathlib.Core.Path.{_≡_};
 ghost use mathlib.Core.Bool.{cond};
 ghost use Rattle.answer.specs.Words.{packed};
@@ -55,21 +55,21 @@ pub(crate) fn either(first: bool, word: u64, other: u64) -> u64
 }
 
 // A modifier where a quality shows one, or its word without one.
-pub(crate) fn modifier_word(shows: bool, without: u64, modifier: Numbered) -> u64
+pub(crate) fn modifier_word(shows: bool, without: u64, modifier: MaybeInterval) -> u64
     ensures { λ r. ⌜ r ≡ modifierWord shows without modifier ⌝ }
 {
     match modifier {
-        Numbered::Is(interval) => either(shows, interval.to_chord_notation(), NOTHING),
-        Numbered::Nothing => without,
+        MaybeInterval::Is(interval) => either(shows, interval.to_chord_notation(), NOTHING),
+        MaybeInterval::Nothing => without,
     }
 }
 
 // How a chord writes an interval, where there is one.
-pub(crate) fn notation(interval: Numbered) -> u64
+pub(crate) fn notation(interval: MaybeInterval) -> u64
     ensures { λ r. ⌜ r ≡ packed (orElse "" interval) ⌝ }
 {
     match interval {
-        Numbered::Is(interval) => interval.to_chord_notation(),
-        Numbered::Nothing => NOTHING,
+        MaybeInterval::Is(interval) => interval.to_chord_notation(),
+        MaybeInterval::Nothing => NOTHING,
     }
 }

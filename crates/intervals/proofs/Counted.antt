@@ -1,14 +1,7 @@
 -- How many classes a set has, by the language's own count of ones.
 --     ones-in         the count of ones of a number of k digits looks at k digits
 --     class-count     the count of ones of a set is the number of its classes
-use mathlib.Core.Path.{_≡_, refl, sym, ap, ap₂, subst, _∙_}
-use mathlib.Core.Bool.{Bool, true, false, cond}
-use Prim.Native.Nat.{ℕ, zero, suc, _+_, _/_, _%_, _^_, _<_}
-use native.Mathlib.Nat.{add-assoc, add-comm, div-one, div-div-eq-div-mul, pow-succ'}
-use native.Mathlib.Numerals.{add-one}
-use native.Mathlib.Omega.{arith}
-use lib.Count.{ones, onesIn, ones-step}
-use lib.Pow.{shr-lt}
+use Rattle.answer.proofs.Kit.{_≡_, refl, sym, ap, ap₂, subst, _∙_, Bool, true, false, cond, ℕ, zero, suc, _+_, _/_, _%_, _^_, _<_, add-assoc, add-comm, div-one, div-div-eq-div-mul, pow-succ', add-one, arith, ones, onesIn, ones-step, shr-lt}
 use Rattle.intervals.specs.Sets.{has, countBelow, classCount}
 use Rattle.intervals.proofs.Members.{held, absent}
 

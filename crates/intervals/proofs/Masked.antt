@@ -3,16 +3,8 @@
 --     and-or     a bitwise and goes over a bitwise or
 --     once       no class is named twice
 --     masked     of the classes named, those in the set are those asked for: it has all of these and none of the others
-use mathlib.Core.Path.{_≡_, refl, sym, ap, ap₂, _∙_}
-use mathlib.Core.Bool.{Bool, true, false, not, _&&_, and-assoc, and-false, true≢false}
-use mathlib.Core.List.{List, [], _∷_, _++_}
-use Prim.Native.Nat.{ℕ, zero, suc, _+_, _*_, _/_, _%_, _^_, _≤_, min, max}
-use native.Mathlib.Nat.{add-comm, zero-add, zero-div, zero-min, min-eq-right, min-le-left, max-le, le-of-suc-le-suc, not-suc-le-zero}
-use native.Mathlib.Omega.{arith}
+use Rattle.answer.proofs.Kit.{_≡_, refl, sym, ap, ap₂, _∙_, Bool, true, false, not, _&&_, and-assoc, and-false, true≢false, List, [], _∷_, _++_, ℕ, zero, suc, _+_, _*_, _/_, _%_, _^_, _≤_, min, max, add-comm, zero-add, zero-div, zero-min, min-eq-right, min-le-left, max-le, le-of-suc-le-suc, not-suc-le-zero, arith, bitAnd, bitOr, and-shr, and-step, and-zero-r, or-shr, or-step, or-zero-r, T, eqb, eqb-true, eqb-false, eq-eqb, ne-eqb, not-true}
 use lib.Arith.{bin-ind}
-use lib.Bits.{bitAnd, bitOr, and-shr, and-step, and-zero-r, or-shr, or-step, or-zero-r}
-use lib.Dec.{T, eqb}
-use borrow.Author.Tests.{eqb-true, eqb-false, eq-eqb, ne-eqb, not-true}
 use Rattle.answer.proofs.Tests.{left, right, is-true}
 use Rattle.intervals.specs.Sets.{has, hasAll, hasNone, bits}
 use Rattle.intervals.proofs.Members.{missing, only, alone, joined, joined-has, with-fresh, or-digit}

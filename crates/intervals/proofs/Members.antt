@@ -9,19 +9,7 @@
 --     with-held, with-fresh, with-has, with-less     the same of a class that it may have had
 --     bits-has        a number is in the set of a list where it is in the list
 --     taken-has       a set with a class taken out that it had: it has the others
-use mathlib.Core.Path.{_≡_, refl, sym, ap, ap₂, subst, _∙_}
-use mathlib.Core.Bool.{Bool, true, false, not, cond, _&&_, _||_, and-true}
-use mathlib.Core.List.{List, [], _∷_}
-use Prim.Native.Nat.{ℕ, zero, suc, _+_, _-_, _*_, _/_, _%_, _^_, _<_, _≤_, max}
-use native.Mathlib.Nat.{div-add-mod', mod-lt, max-le, max-zero, max-eq-right, add-mul, one-mul, zero-add, suc-add, add-sub-of-le, div-self, div-eq-of-lt, mul-div-cancel-left, mul-mod-left, pow-suc, add-div-right, zero-div}
-use native.Mathlib.Decide.{decLe}
-use native.Mathlib.Numerals.{one-add}
-use native.Mathlib.Omega.{arith}
-use lib.Bits.{bitAnd, bitOr, and-block, and-mask, and-zero-r, or-disjoint, or-lt, or-shr, or-step}
-use lib.Count.{ones, ones-step, ones-cat}
-use lib.Dec.{eqb}
-use lib.Pow.{pow-pos, pow-lt, pow-add}
-use borrow.Author.Tests.{eqb-true, eqb-false, eq-eqb, ne-eqb}
+use Rattle.answer.proofs.Kit.{_≡_, refl, sym, ap, ap₂, subst, _∙_, Bool, true, false, not, cond, _&&_, _||_, and-true, List, [], _∷_, ℕ, zero, suc, _+_, _-_, _*_, _/_, _%_, _^_, _<_, _≤_, max, div-add-mod', mod-lt, max-le, max-zero, max-eq-right, add-mul, one-mul, zero-add, suc-add, add-sub-of-le, div-self, div-eq-of-lt, mul-div-cancel-left, mul-mod-left, pow-suc, add-div-right, zero-div, decLe, one-add, arith, bitAnd, bitOr, and-block, and-mask, and-zero-r, or-disjoint, or-lt, or-shr, or-step, ones, ones-step, ones-cat, eqb, pow-pos, pow-lt, pow-add, eqb-true, eqb-false, eq-eqb, ne-eqb}
 use Rattle.intervals.specs.Sets.{has, withMember, bits, isIn}
 
 pub held : (s c : ℕ) → has s c ≡ true → s / 2 ^ c % 2 ≡ 1

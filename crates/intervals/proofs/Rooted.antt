@@ -5,14 +5,7 @@
 --     rooted-count     2,048 numbers are rooted sets
 --     at-rooted        a test that passes at each of them passes at one
 --     by-halves        the same, of two computed tests, for what is too much for one
-use mathlib.Core.Path.{_≡_, refl, ap, sym, subst, _∙_}
-use mathlib.Core.Bool.{Bool, true, _&&_}
-use Prim.Native.Nat.{ℕ, _+_, _-_, _*_, _/_, _%_, _≤_}
-use native.Mathlib.Nat.{div-one}
-use native.Mathlib.Decide.{decLe}
-use native.Mathlib.Omega.{arith}
-use lib.Dec.{T, eqb, leb, eqb→eq, leb→le}
-use borrow.Author.Tests.{eq-eqb, le-leb}
+use Rattle.answer.proofs.Kit.{_≡_, refl, ap, sym, subst, _∙_, Bool, true, _&&_, ℕ, _+_, _-_, _*_, _/_, _%_, _≤_, div-one, decLe, arith, T, eqb, leb, eqb→eq, leb→le, eq-eqb, le-leb}
 use Rattle.answer.proofs.Tests.{left, right, said, all, at}
 use Rattle.intervals.specs.Sets.{isSet, has, isRooted, countBelow}
 

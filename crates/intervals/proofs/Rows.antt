@@ -3,15 +3,7 @@
 --     past          a number past the last interval names none
 --     at-interval   a test that passes at each interval passes at one
 --     numbered-back, numbered-none, number-small, set-small     an interval's number names it, is below 23, and so a set of intervals below 2 ^ 23
-use mathlib.Core.Path.{_≡_, refl, sym, ap, subst, _∙_}
-use mathlib.Core.Bool.{Bool, true, false, true≢false}
-use mathlib.Core.List.{List, [], _∷_, map}
-use Prim.Native.Nat.{ℕ, zero, suc, _^_, _≤_, _<_}
-use native.Mathlib.Decide.{decLe}
-use native.Mathlib.Nat.{le-of-suc-le-suc, not-suc-le-zero}
-use native.Mathlib.Omega.{arith}
-use lib.Dec.{T, lit<}
-use lib.ListN.{length}
+use Rattle.answer.proofs.Kit.{_≡_, refl, sym, ap, subst, _∙_, Bool, true, false, true≢false, List, [], _∷_, map, ℕ, zero, suc, _^_, _≤_, _<_, decLe, le-of-suc-le-suc, not-suc-le-zero, arith, T, lit<, length}
 use Rattle.answer.specs.Words.{packed}
 use Rattle.answer.proofs.Arms.{Nones, nones}
 use Rattle.answer.proofs.Tests.{all, at}
@@ -21,8 +13,8 @@ use Rattle.intervals.specs.private.Rows.{Tells}
 use Rattle.intervals.specs.declared.interval.Interval.{Interval}
 use Rattle.intervals.specs.declared.interval.Interval.the-variants.{Unison, MinorSecond, MajorSecond, MinorThird, MajorThird, PerfectFourth, AugmentedFourth, DiminishedFifth, PerfectFifth, AugmentedFifth, MinorSixth, MajorSixth, DiminishedSeventh, MinorSeventh, MajorSeventh, Octave, FlatNinth, Ninth, SharpNinth, Eleventh, SharpEleventh, FlatThirteenth, Thirteenth}
 use Rattle.intervals.specs.declared.interval.About.{About}
-use Rattle.intervals.specs.declared.interval.Numbered.{Numbered}
-use Rattle.intervals.specs.declared.interval.Numbered.the-variants.{Is, Nothing}
+use Rattle.intervals.specs.declared.interval.MaybeInterval.{MaybeInterval}
+use Rattle.intervals.specs.declared.interval.MaybeInterval.the-variants.{Is, Nothing}
 use Rattle.intervals.proofs.Members.{with-less}
 
 -- an interval's row
@@ -79,7 +71,7 @@ pub numbered-none : numbered 23 ≡ Nothing
 unfolding intervals nth numbered
 numbered-none = refl
 
-abbrev isSome : Numbered → Bool
+abbrev isSome : MaybeInterval → Bool
 isSome (Is i) = true
 isSome Nothing = false
 
@@ -92,12 +84,12 @@ number-small i = by-order (decLe 23 (numberOf i))
     by-order (no h) = omega arith
 
 -- a test of one interval, of what a number names
-abbrev pub ofNumbered : (Interval → Bool) → Numbered → Bool
+abbrev pub ofNumbered : (Interval → Bool) → MaybeInterval → Bool
 ofNumbered f (Is i) = f i
 ofNumbered f Nothing = true
 
 pub at-interval : (f : Interval → Bool) → T (all (λ n. ofNumbered f (numbered n)) 23) → (i : Interval) → T (f i)
-at-interval f t i = subst (λ (m : Numbered). T (ofNumbered f m)) (numbered-back i) (at (λ n. ofNumbered f (numbered n)) 23 t (numberOf i) (number-small i))
+at-interval f t i = subst (λ (m : MaybeInterval). T (ofNumbered f m)) (numbered-back i) (at (λ n. ofNumbered f (numbered n)) 23 t (numberOf i) (number-small i))
 
 pub set-small : (found : List Interval) → setOf found < 2 ^ 23
 unfolding setOf

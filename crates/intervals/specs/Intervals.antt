@@ -9,8 +9,8 @@ use Rattle.intervals.specs.declared.interval.Interval.the-variants.{Unis
 use Rattle.intervals.specs.declared.interval.IntDegree.{IntDegree}
 use Rattle.intervals.specs.declared.interval.IntDegree.the-variants.{Root, Second, Third, Fourth, Fifth, Sixth, Seventh}
 use Rattle.intervals.specs.declared.interval.IntDegree.the-variants as Degree
-use Rattle.intervals.specs.declared.interval.Numbered.{Numbered}
-use Rattle.intervals.specs.declared.interval.Numbered.the-variants.{Is, Nothing}
+use Rattle.intervals.specs.declared.interval.MaybeInterval.{MaybeInterval}
+use Rattle.intervals.specs.declared.interval.MaybeInterval.the-variants.{Is, Nothing}
 
 -- the intervals in the order of 004
 unfoldable pub intervals : List Interval
@@ -21,13 +21,13 @@ intervals =
     ∷ SharpNinth ∷ Eleventh ∷ SharpEleventh ∷ FlatThirteenth ∷ Thirteenth ∷ []
 
 -- the interval at a place of a list
-unfoldable pub nth : List Interval → ℕ → Numbered
+unfoldable pub nth : List Interval → ℕ → MaybeInterval
 nth [] n = Nothing
 nth (i ∷ more) zero = Is i
 nth (i ∷ more) (suc n) = nth more n
 
 -- the interval of a number, 0 to 22
-unfoldable pub numbered : ℕ → Numbered
+unfoldable pub numbered : ℕ → MaybeInterval
 numbered n = nth intervals n
 
 -- what 004 keeps of an interval

@@ -92,41 +92,41 @@ type D = IntDegree;
 struct About(u32, u32, IntDegree, IntDegree, u64);
 
 // The interval of a number, where there is one.
-pub enum Numbered {
+pub enum MaybeInterval {
     Is(Interval),
     Nothing,
 }
 
 impl Interval {
     // The interval that a number names: 0 to 22, in the order above.
-    pub fn from_number(number: u32) -> Numbered
+    pub fn from_number(number: u32) -> MaybeInterval
         ensures { λ r. ⌜ r ≡ numbered number ⌝ }
     {
         match number {
-            0 => Numbered::Is(Interval::Unison),
-            1 => Numbered::Is(Interval::MinorSecond),
-            2 => Numbered::Is(Interval::MajorSecond),
-            3 => Numbered::Is(Interval::MinorThird),
-            4 => Numbered::Is(Interval::MajorThird),
-            5 => Numbered::Is(Interval::PerfectFourth),
-            6 => Numbered::Is(Interval::AugmentedFourth),
-            7 => Numbered::Is(Interval::DiminishedFifth),
-            8 => Numbered::Is(Interval::PerfectFifth),
-            9 => Numbered::Is(Interval::AugmentedFifth),
-            10 => Numbered::Is(Interval::MinorSixth),
-            11 => Numbered::Is(Interval::MajorSixth),
-            12 => Numbered::Is(Interval::DiminishedSeventh),
-            13 => Numbered::Is(Interval::MinorSeventh),
-            14 => Numbered::Is(Interval::MajorSeventh),
-            15 => Numbered::Is(Interval::Octave),
-            16 => Numbered::Is(Interval::FlatNinth),
-            17 => Numbered::Is(Interval::Ninth),
-            18 => Numbered::Is(Interval::SharpNinth),
-            19 => Numbered::Is(Interval::Eleventh),
-            20 => Numbered::Is(Interval::SharpEleventh),
-            21 => Numbered::Is(Interval::FlatThirteenth),
-            22 => Numbered::Is(Interval::Thirteenth),
-            _ => Numbered::Nothing,
+            0 => MaybeInterval::Is(Interval::Unison),
+            1 => MaybeInterval::Is(Interval::MinorSecond),
+            2 => MaybeInterval::Is(Interval::MajorSecond),
+            3 => MaybeInterval::Is(Interval::MinorThird),
+            4 => MaybeInterval::Is(Interval::MajorThird),
+            5 => MaybeInterval::Is(Interval::PerfectFourth),
+            6 => MaybeInterval::Is(Interval::AugmentedFourth),
+            7 => MaybeInterval::Is(Interval::DiminishedFifth),
+            8 => MaybeInterval::Is(Interval::PerfectFifth),
+            9 => MaybeInterval::Is(Interval::AugmentedFifth),
+            10 => MaybeInterval::Is(Interval::MinorSixth),
+            11 => MaybeInterval::Is(Interval::MajorSixth),
+            12 => MaybeInterval::Is(Interval::DiminishedSeventh),
+            13 => MaybeInterval::Is(Interval::MinorSeventh),
+            14 => MaybeInterval::Is(Interval::MajorSeventh),
+            15 => MaybeInterval::Is(Interval::Octave),
+            16 => MaybeInterval::Is(Interval::FlatNinth),
+            17 => MaybeInterval::Is(Interval::Ninth),
+            18 => MaybeInterval::Is(Interval::SharpNinth),
+            19 => MaybeInterval::Is(Interval::Eleventh),
+            20 => MaybeInterval::Is(Interval::SharpEleventh),
+            21 => MaybeInterval::Is(Interval::FlatThirteenth),
+            22 => MaybeInterval::Is(Interval::Thirteenth),
+            _ => MaybeInterval::Nothing,
         }
     }
 

@@ -4,16 +4,8 @@
 --     placed-from      a key that some tones are placed at is a key of one of them
 --     none-nearer      no key is nearer than the nearest
 --     no-keys          where none is the nearest there is none
-use mathlib.Core.Path.{_≡_, refl, sym, subst}
-use mathlib.Core.Bool.{Bool, true, false, cond, _||_}
-use mathlib.Core.List.{List, [], _∷_, List·Memᴰ, List·Memᴰ·head, List·Memᴰ·tail, List·Memᴰ·not-nil, List·Memᴰ·cases-cons}
-use mathlib.Core.Logic.{_⊎_, ⊎-elim}
+use Rattle.answer.proofs.Kit.{_≡_, refl, sym, subst, Bool, true, false, cond, _||_, List, [], _∷_, List·Memᴰ, List·Memᴰ·head, List·Memᴰ·tail, List·Memᴰ·not-nil, List·Memᴰ·cases-cons, _⊎_, ⊎-elim, ℕ, zero, suc, _≤_, _<_, decLt, arith, eqb, lt-ltb, le-ltb}
 use mathlib.Core.Option.{Option, none, some, Option·elim, IsSome}
-use Prim.Native.Nat.{ℕ, zero, suc, _≤_, _<_}
-use native.Mathlib.Decide.{decLt}
-use native.Mathlib.Omega.{arith}
-use lib.Dec.{eqb}
-use borrow.Author.Tests.{lt-ltb, le-ltb}
 use Rattle.intervals.specs.Sets.{has}
 use Rattle.pool.specs.declared.pool.Tone.{Tone}
 use Rattle.keys.specs.Choice.{distance, ToneKey, keysOfTones, unlessNearer, nearest, without, chosen, otherTones, placedIn}

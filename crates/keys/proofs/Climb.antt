@@ -3,16 +3,8 @@
 --     passed, taken, past-limit    which keys a climb has
 --     reached        some octaves above the first, each nearer than the one before, and the next not below the limit or not nearer: the nearest
 --     no-key         where the first is not below the limit there is none
-use mathlib.Core.Path.{_≡_, refl, sym, ap, ap₂, _∙_}
-use mathlib.Core.Bool.{Bool, true, false, cond, _&&_, and-false}
-use mathlib.Core.List.{List, [], _∷_, map}
-use mathlib.Core.Logic.{_⊎_, ⊎-elim}
+use Rattle.answer.proofs.Kit.{_≡_, refl, sym, ap, ap₂, _∙_, Bool, true, false, cond, _&&_, and-false, List, [], _∷_, map, _⊎_, ⊎-elim, ℕ, zero, suc, _+_, _*_, _-_, _≤_, _<_, decLt, arith, leb, ltb, lt-ltb, le-ltb, lt-leb, le-leb}
 use mathlib.Core.Option.{Option, none, some}
-use Prim.Native.Nat.{ℕ, zero, suc, _+_, _*_, _-_, _≤_, _<_}
-use native.Mathlib.Decide.{decLt}
-use native.Mathlib.Omega.{arith}
-use lib.Dec.{leb, ltb}
-use borrow.Author.Tests.{lt-ltb, le-ltb, lt-leb, le-leb}
 use Rattle.keys.specs.Choice.{keysFrom, distance, ToneKey, toneKey, unlessNearer, nearest}
 use Rattle.keys.specs.private.Ranked.{octavesBelow, firstKey}
 use Rattle.keys.proofs.Winner.{unless-joins}

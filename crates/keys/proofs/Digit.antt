@@ -3,15 +3,7 @@
 --     within      so one that is in it is below 32
 --     bit-held    its bit, as the code shifts it
 --     bit-least   the set is no less than it
-use mathlib.Core.Path.{_≡_, ap, subst, _∙_}
-use mathlib.Core.Bool.{true, false}
-use Prim.Native.Nat.{ℕ, _*_, _/_, _%_, _^_, _≤_, _<_}
-use native.Mathlib.Decide.{decLt}
-use native.Mathlib.Nat.{div-eq-of-lt, lt-of-lt-of-le, pow-le-pow-right, one-mul}
-use native.Mathlib.Omega.{arith}
-use lib.Dec.{T, eqb, lit<}
-use lib.Pow.{shl-exact}
-use borrow.Author.Tests.{eqb-true}
+use Rattle.answer.proofs.Kit.{_≡_, ap, subst, _∙_, true, false, ℕ, _*_, _/_, _%_, _^_, _≤_, _<_, decLt, div-eq-of-lt, lt-of-lt-of-le, pow-le-pow-right, one-mul, arith, T, eqb, lit<, shl-exact, eqb-true}
 use Rattle.answer.proofs.Tests.{said}
 use Rattle.intervals.specs.Sets.{has}
 

@@ -3,13 +3,7 @@
 --     keep           the offers of the intervals of a set
 --     keep-without   so the offers that it keeps are those of other intervals
 --     keep-all       every offer of a chosen tone has one of 32 intervals
-use mathlib.Core.Path.{_≡_, refl, sym, ap, _∙_}
-use mathlib.Core.Bool.{Bool, true, false, not, cond, _&&_, _||_, and-true}
-use mathlib.Core.List.{List, [], _∷_, map}
-use Prim.Native.Nat.{ℕ, _-_, _^_, _<_}
-use native.Mathlib.Omega.{arith}
-use lib.Dec.{T, eqb}
-use borrow.Author.Tests.{eqb-true}
+use Rattle.answer.proofs.Kit.{_≡_, refl, sym, ap, _∙_, Bool, true, false, not, cond, _&&_, _||_, and-true, List, [], _∷_, map, ℕ, _-_, _^_, _<_, arith, T, eqb, eqb-true}
 use Rattle.answer.proofs.Tests.{all, at, is-true}
 use Rattle.intervals.specs.Sets.{has}
 use Rattle.intervals.proofs.Members.{taken-has}

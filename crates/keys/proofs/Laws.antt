@@ -1,9 +1,6 @@
 -- Theorem on the keys of a tone.
 --     two-or-three    "two or three keys, never none": a note class has so many in the range
-use mathlib.Core.Bool.{Bool, _&&_}
-use Prim.Native.Nat.{ℕ, suc, _≤_, _<_}
-use lib.Dec.{T, leb, leb→le}
-use lib.ListN.{length}
+use Rattle.answer.proofs.Kit.{Bool, _&&_, ℕ, suc, _≤_, _<_, T, leb, leb→le, length}
 use Rattle.answer.proofs.Tests.{left, right, all, at}
 use Rattle.keys.specs.Range.{lowestKey, highestKey}
 use Rattle.keys.specs.Choice.{keysFrom, keysOf}

@@ -3,16 +3,8 @@
 --     nearest-append    the nearest of two lists is that of their nearest
 --     is-one            the nearest of some keys is one of them
 --     KeyOf, from-tones    a key of some tones is a tone's: within the range, and some octaves above its class's own
-use mathlib.Core.Path.{_≡_, refl, sym, ap, subst, _∙_}
-use mathlib.Core.Bool.{Bool, true, false, cond, _&&_}
-use mathlib.Core.List.{List, [], _∷_, _++_, List·Memᴰ, List·Memᴰ·head, List·Memᴰ·tail, List·Memᴰ·not-nil, List·Memᴰ·cases-cons, List·Memᴰ·append-cases, Memᴰ·of-map}
-use mathlib.Core.Logic.{⊎-elim}
+use Rattle.answer.proofs.Kit.{_≡_, refl, sym, ap, subst, _∙_, Bool, true, false, cond, _&&_, List, [], _∷_, _++_, List·Memᴰ, List·Memᴰ·head, List·Memᴰ·tail, List·Memᴰ·not-nil, List·Memᴰ·cases-cons, List·Memᴰ·append-cases, Memᴰ·of-map, ⊎-elim, ℕ, zero, suc, _+_, _%_, _≤_, _<_, decLt, arith, leb, ltb, leb→le, ltb→lt, lt-ltb, le-ltb}
 use mathlib.Core.Option.{Option, none, some}
-use Prim.Native.Nat.{ℕ, zero, suc, _+_, _%_, _≤_, _<_}
-use native.Mathlib.Decide.{decLt}
-use native.Mathlib.Omega.{arith}
-use lib.Dec.{leb, ltb, leb→le, ltb→lt}
-use borrow.Author.Tests.{lt-ltb, le-ltb}
 use Rattle.answer.proofs.Tests.{left, right, said}
 use Rattle.pool.specs.declared.pool.Tone.{Tone}
 use Rattle.keys.specs.Choice.{keysFrom, keysOf, distance, ToneKey, toneKey, keysOfTone, keysOfTones, unlessNearer, nearest}

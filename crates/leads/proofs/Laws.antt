@@ -2,13 +2,8 @@
 --     bars-one        a tone bars its successor's interval and no other
 --     in-without      the tones that a lead leaves are of the pool
 --     IsLead, lead-is    the lead is a key of an unbarred tone, and none of theirs is nearer to the wanted one; or it is 0, and they have no key
-use mathlib.Core.Path.{_≡_, refl}
-use mathlib.Core.Bool.{Bool, true, false, not, cond, _&&_}
-use mathlib.Core.List.{List, [], _∷_, List·Memᴰ, List·Memᴰ·tail}
-use mathlib.Core.Logic.{_⊎_, inl, inr}
+use Rattle.answer.proofs.Kit.{_≡_, refl, Bool, true, false, not, cond, _&&_, List, [], _∷_, List·Memᴰ, List·Memᴰ·tail, _⊎_, inl, inr, ℕ, _≤_, eqb}
 use mathlib.Core.Option.{Option, none, some, Option·elim}
-use Prim.Native.Nat.{ℕ, _≤_}
-use lib.Dec.{eqb}
 use Rattle.intervals.specs.Sets.{has}
 use Rattle.pool.specs.declared.pool.Tone.{Tone}
 use Rattle.pool.specs.Pool.{anyTone}

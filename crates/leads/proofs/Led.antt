@@ -2,13 +2,7 @@
 --     fewer       the pool has no more tones once the lead has left
 --     led-is      what is left of a pool that fits makes one
 --     led-left    its tones
-use mathlib.Core.Path.{_≡_}
-use mathlib.Core.Bool.{Bool, true, false, cond}
-use mathlib.Core.List.{List, [], _∷_}
-use Prim.Native.Nat.{ℕ, suc, _≤_}
-use native.Mathlib.Nat.{le-trans}
-use native.Mathlib.Omega.{arith}
-use lib.ListN.{length}
+use Rattle.answer.proofs.Kit.{_≡_, Bool, true, false, cond, List, [], _∷_, ℕ, suc, _≤_, le-trans, arith, length}
 use Rattle.pool.specs.declared.pool.Tone.{Tone}
 use Rattle.pool.specs.private.Places.{poolOf, tonesIn, IsPool}
 use Rattle.pool.proofs.Pooled.{laid-is, laid-tones, pool-is}

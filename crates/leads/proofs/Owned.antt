@@ -1,14 +1,7 @@
 -- Which keys are a tone's: those of the range that are some twelves above the key of its class.
 --     none-below   no key below the first
 --     by-twelves   from the first on, those of the range whose distance from it has no rest by twelve
-use mathlib.Core.Path.{_≡_, refl, sym, ap, _∙_}
-use mathlib.Core.Bool.{Bool, true, false, cond, _&&_, _||_, and-true, and-false, or-false}
-use mathlib.Core.List.{List, _∷_}
-use Prim.Native.Nat.{ℕ, zero, suc, _+_, _-_, _*_, _%_, _≤_, _<_}
-use native.Mathlib.Decide.{decLt}
-use native.Mathlib.Omega.{arith}
-use lib.Dec.{eqb, leb, ltb}
-use borrow.Author.Tests.{eq-eqb, ne-eqb}
+use Rattle.answer.proofs.Kit.{_≡_, refl, sym, ap, _∙_, Bool, true, false, cond, _&&_, _||_, and-true, and-false, or-false, List, _∷_, ℕ, zero, suc, _+_, _-_, _*_, _%_, _≤_, _<_, decLt, arith, eqb, leb, ltb, eq-eqb, ne-eqb}
 use Rattle.intervals.specs.Sets.{isIn}
 use Rattle.keys.specs.Choice.{keysFrom}
 

@@ -3,14 +3,7 @@
 --     past-last   past its last tone a pool is as it was
 --     last-gone   the tone at a place that owns a key, with none behind that does, is the last that owns it
 --     none-gone   where no tone owns the key, none leaves
-use mathlib.Core.Path.{_≡_, refl, sym, ap, _∙_}
-use mathlib.Core.Bool.{Bool, true, false, _||_}
-use mathlib.Core.List.{List, [], _∷_, _++_}
-use Prim.Native.Nat.{ℕ, zero, suc, _+_, _≤_, _<_}
-use native.Mathlib.Nat.{not-suc-le-zero, le-of-suc-le-suc}
-use native.Mathlib.Numerals.{add-one}
-use lib.ListN.{length, take, drop, getD}
-use lib.Seq.{slice, getD-take, length-take-le}
+use Rattle.answer.proofs.Kit.{_≡_, refl, sym, ap, _∙_, Bool, true, false, _||_, List, [], _∷_, _++_, ℕ, zero, suc, _+_, _≤_, _<_, not-suc-le-zero, le-of-suc-le-suc, add-one, length, take, drop, getD, slice, getD-take, length-take-le}
 use Rattle.answer.proofs.Tests.{said}
 use Rattle.pool.specs.declared.pool.Tone.{Tone}
 use Rattle.pool.specs.Pool.{anyTone}

@@ -1,11 +1,6 @@
 -- The ring of a pool: the tone before the first is the last.
 --     started    what the pool bars, begun behind its last tone
-use mathlib.Core.Path.{_≡_, refl, sym, ap, _∙_}
-use mathlib.Core.List.{List, [], _∷_}
-use Prim.Native.Nat.{ℕ, zero, suc, _-_, _≤_, _<_}
-use native.Mathlib.Nat.{not-suc-le-zero, le-of-suc-le-suc}
-use native.Mathlib.Omega.{arith}
-use lib.ListN.{length, take, getD}
+use Rattle.answer.proofs.Kit.{_≡_, refl, sym, ap, _∙_, List, [], _∷_, ℕ, zero, suc, _-_, _≤_, _<_, not-suc-le-zero, le-of-suc-le-suc, arith, length, take, getD}
 use Rattle.intervals.specs.Intervals.{intervals, setOf}
 use Rattle.pool.specs.declared.pool.Tone.{Tone}
 use Rattle.leads.specs.Lead.{barring, lastOf, unbarred}

@@ -3,14 +3,7 @@
 --     compared       from a place on: the bytes there, and what stands behind them
 --     other-byte     two bytes that differ
 --     all-compared   behind the last byte there is nothing to compare
-use mathlib.Core.Path.{_≡_, sym, ap, ap₂, _∙_}
-use mathlib.Core.Bool.{true, false, _&&_}
-use mathlib.Core.List.{List}
-use Prim.Native.Nat.{ℕ, _+_, _<_}
-use native.Mathlib.Numerals.{add-one}
-use lib.Dec.{eqb, eqb→eq}
-use lib.ListN.{length, drop, getD}
-use lib.Seq.{drop-cons, drop-length}
+use Rattle.answer.proofs.Kit.{_≡_, sym, ap, ap₂, _∙_, true, false, _&&_, List, ℕ, _+_, _<_, add-one, eqb, eqb→eq, length, drop, getD, drop-cons, drop-length}
 use Rattle.answer.specs.Words.{same}
 use Rattle.answer.proofs.Tests.{is-false, same→eq}
 

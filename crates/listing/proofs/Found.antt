@@ -3,14 +3,7 @@
 --     one-found, one-skipped     the set at i is one of the text's, or is not
 --     has-room       a set that is found has its two bytes of room
 --     puts-set       a set's two bytes, as the code stores them
-use mathlib.Core.Path.{_≡_, refl, ap, subst, _∙_}
-use mathlib.Core.Bool.{Bool, true, false, cond}
-use mathlib.Core.List.{List, [], _∷_, _++_}
-use Prim.Native.Nat.{ℕ, suc, _+_, _-_, _*_, _/_, _%_, _<_, _≤_}
-use native.Mathlib.Numerals.{unary-clauses}
-use native.Mathlib.Omega.{arith}
-use lib.ListN.{length, set}
-use lib.Seq.{sets}
+use Rattle.answer.proofs.Kit.{_≡_, refl, ap, subst, _∙_, Bool, true, false, cond, List, [], _∷_, _++_, ℕ, suc, _+_, _-_, _*_, _/_, _%_, _<_, _≤_, unary-clauses, arith, length, set, sets}
 use Rattle.answer.specs.Words.{same}
 use Rattle.answer.specs.Written.{Writes}
 use Rattle.answer.proofs.Writing.{stored, SoFar, so-far-end}

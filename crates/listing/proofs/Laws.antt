@@ -7,16 +7,7 @@
 --                                     texts part the rooted sets
 --     long-listing  a text that is longer than any suffix has none
 --     two-bytes     a listing has two bytes for each of them
-use mathlib.Core.Path.{_≡_, refl, sym, ap, ap₂, subst, _∙_}
-use mathlib.Core.Bool.{Bool, true, false, cond, _&&_, _||_, or-true}
-use mathlib.Core.Logic.{⊎-elim}
-use mathlib.Core.List.{List, [], _∷_}
-use Prim.Native.Nat.{ℕ, zero, suc, _+_, _*_, _%_, _<_, _≤_}
-use native.Mathlib.Nat.{eq-or-lt-of-le}
-use native.Mathlib.Omega.{arith}
-use lib.Dec.{T, eqb}
-use lib.ListN.{length}
-use borrow.Author.Tests.{eq-eqb, eqb-true, lt-ltb}
+use Rattle.answer.proofs.Kit.{_≡_, refl, sym, ap, ap₂, subst, _∙_, Bool, true, false, cond, _&&_, _||_, or-true, ⊎-elim, List, [], _∷_, ℕ, zero, suc, _+_, _*_, _%_, _<_, _≤_, eq-or-lt-of-le, arith, T, eqb, length, eq-eqb, eqb-true, lt-ltb}
 use Rattle.answer.specs.Words.{same}
 use Rattle.answer.proofs.Tests.{said, same→eq, eq→same}
 use Rattle.intervals.specs.Sets.{isIn, isRooted}

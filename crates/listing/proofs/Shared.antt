@@ -2,14 +2,7 @@
 -- the first of them, as a quicksort parts them: one computed test, and the law that it counts.
 --     sixteen        a text has at most so many sets
 --     listing-room   so a listing has at most 32 bytes
-use mathlib.Core.Path.{_≡_, refl, sym, ap, _∙_}
-use mathlib.Core.Bool.{Bool, true, false, cond, _&&_}
-use mathlib.Core.List.{List, [], _∷_}
-use Prim.Native.Nat.{ℕ, zero, suc, _+_, _*_, _≤_}
-use native.Mathlib.Omega.{arith}
-use lib.Dec.{T, eqb, ltb, ltb→lt}
-use lib.ListN.{length}
-use borrow.Author.Tests.{eq-eqb, ne-eqb, eqb-true, eqb-false, lt-ltb, ltb-false}
+use Rattle.answer.proofs.Kit.{_≡_, refl, sym, ap, _∙_, Bool, true, false, cond, _&&_, List, [], _∷_, ℕ, zero, suc, _+_, _*_, _≤_, arith, T, eqb, ltb, ltb→lt, length, eq-eqb, ne-eqb, eqb-true, eqb-false, lt-ltb, ltb-false}
 use Rattle.answer.specs.Words.{same, low}
 use Rattle.answer.proofs.Tests.{left, right, said, same→eq}
 use Rattle.rules.specs.Suffix.{suffixOf}

@@ -1,11 +1,5 @@
 -- Laws of tables of notes.
-use mathlib.Core.Path.{_≡_, refl}
-use mathlib.Core.Bool.{Bool, true, _&&_}
-use mathlib.Core.List.{List, [], _∷_, map}
-use Prim.Native.Nat.{ℕ, zero, suc, _≤_}
-use native.Mathlib.Omega.{arith}
-use lib.Dec.{T, leb, leb→le}
-use lib.ListN.{length}
+use Rattle.answer.proofs.Kit.{_≡_, refl, Bool, true, _&&_, List, [], _∷_, map, ℕ, zero, suc, _≤_, arith, T, leb, leb→le, length}
 use Rattle.answer.specs.Words.{bytes}
 use Rattle.answer.specs.Lines.{lineFeeds}
 use Rattle.answer.proofs.Digits.{isShort, areBytes}

@@ -10,16 +10,9 @@
 --     plus-six         the height of a count is the count plus six
 --     height-less      and is below 13
 --     lowered-height   from a count to its height and back
-use mathlib.Core.Path.{_≡_, refl, sym, ap, subst, _∙_}
-use mathlib.Core.Bool.{Bool, true, false, not, _||_}
-use Prim.Native.Nat.{ℕ, _+_, _-_, _^_, _<_, _≤_, suc}
-use native.Mathlib.Omega.{arith}
-use lib.Dec.{T, eqb, leb, ltb, ltb→lt, leb→le, T-not}
-use lib.IntN.{ℤ, pos, negsuc, negℤ, _+ℤ_, _-ℤ_, +ℤ-negℤ-cancel}
-use lib.Signed.{mag, leZ, ltZ, leZ-yes, ltZ-yes, ltZ-no, clashℤ}
+use Rattle.answer.proofs.Kit.{_≡_, refl, sym, ap, subst, _∙_, Bool, true, false, not, _||_, ℕ, _+_, _-_, _^_, _<_, _≤_, suc, arith, T, eqb, leb, ltb, ltb→lt, leb→le, T-not, ℤ, pos, negsuc, negℤ, _+ℤ_, _-ℤ_, +ℤ-negℤ-cancel, mag, leZ, ltZ, leZ-yes, ltZ-yes, ltZ-no, clashℤ, lt-ltb, le-ltb, ne-eqb}
 use mir.Syntax.{w32}
 use mir.Val.{SFits, toZ}
-use borrow.Author.Tests.{lt-ltb, le-ltb, ne-eqb}
 use Rattle.answer.proofs.Tests.{left, right, both, is-true, is-false, said, denied, all, at}
 use Rattle.notes.specs.Notes.{isCount, accidentalOf}
 use Rattle.notes.specs.private.Heights.{heightOf}

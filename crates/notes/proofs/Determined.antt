@@ -1,6 +1,6 @@
 -- Determinacy of the crate's public contracts (`Rattle.answer.proofs.Determined` has the law).
 --     F-decides      the contract of `F` allows one answer to each call, and one content of the range that it is lent
-use denote.Ref.{now}
+use Rattle.answer.proofs.Kit.{now}
 use Rattle.answer.proofs.Determined.{Decides, DecidesWith, determined, both}
 use Rattle.notes.proofs.note.Note.new.Reads as new
 use Rattle.notes.proofs.note.Note.to_semitone.Reads as to-semitone

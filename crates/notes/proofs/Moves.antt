@@ -3,14 +3,7 @@
 --     in-height     a number is a count where its height is below 13
 --     sounds        the semitone of a note, by its height
 --     reaches       the accidental between a pitch and a letter, by its height
-use mathlib.Core.Path.{_≡_, refl, sym, ap, _∙_}
-use mathlib.Core.Bool.{Bool, true, false, cond, _&&_}
-use Prim.Native.Nat.{ℕ, suc, _+_, _-_, _%_, _<_, _≤_}
-use native.Mathlib.Decide.{decLt}
-use native.Mathlib.Omega.{arith}
-use lib.Dec.{T, leb, ltb, eqb, leb→le, eqb→eq}
-use lib.IntN.{ℤ, pos, negsuc, _+ℤ_, _-ℤ_}
-use borrow.Author.Tests.{lt-ltb, le-ltb}
+use Rattle.answer.proofs.Kit.{_≡_, refl, sym, ap, _∙_, Bool, true, false, cond, _&&_, ℕ, suc, _+_, _-_, _%_, _<_, _≤_, decLt, arith, T, leb, ltb, eqb, leb→le, eqb→eq, ℤ, pos, negsuc, _+ℤ_, _-ℤ_, lt-ltb, le-ltb}
 use Rattle.answer.proofs.Tests.{left, right, is-true, said, all, at}
 use Rattle.notes.specs.Notes.{isCount, countOf, isNote, natural, mod12, semitone, nearest}
 use Rattle.notes.specs.private.Heights.{heightOf}

@@ -1,10 +1,5 @@
 -- The text of a note, by a test of the seven letters at the thirteen heights.
-use mathlib.Core.Path.{_≡_, refl, subst}
-use mathlib.Core.Bool.{Bool, true, false, cond, _&&_}
-use mathlib.Core.List.{List, _∷_}
-use Prim.Native.Nat.{ℕ}
-use lib.Dec.{T, eqb, eqb→eq}
-use lib.IntN.{ℤ}
+use Rattle.answer.proofs.Kit.{_≡_, refl, subst, Bool, true, false, cond, _&&_, List, _∷_, ℕ, T, eqb, eqb→eq, ℤ}
 use Rattle.answer.specs.Words.{bytes}
 use Rattle.answer.specs.Lines.{lineFeeds}
 use Rattle.answer.specs.Replies.{AtMost, refuse, text}

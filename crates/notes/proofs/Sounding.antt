@@ -1,11 +1,7 @@
 -- What a move reaches: a note on the letter that the degree says, which sounds as many semitones above.
 --     spelled-is, spelled-sounds      on each letter, at each pitch, there is a note, and it sounds that pitch
 --     move-is, move-letter, move-sounds     the same of the note that `get_note` gives
-use mathlib.Core.Path.{_≡_, refl}
-use mathlib.Core.Bool.{Bool, true, _&&_}
-use Prim.Native.Nat.{ℕ, _+_, _%_, _<_}
-use native.Mathlib.Omega.{arith}
-use lib.Dec.{T, eqb, eqb→eq}
+use Rattle.answer.proofs.Kit.{_≡_, refl, Bool, true, _&&_, ℕ, _+_, _%_, _<_, arith, T, eqb, eqb→eq}
 use Rattle.answer.proofs.Tests.{left, right, is-true, all, at}
 use Rattle.notes.specs.Notes.{isNote, semitone, letterAt, spelled, getNote}
 use Rattle.notes.specs.declared.note.Note.{Note}

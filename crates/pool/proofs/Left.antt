@@ -3,13 +3,7 @@
 --     none      at the end nothing is left
 --     pushed    a store behind what was put in front puts one more there
 --     behind    and leaves what stands farther on as it was
-use mathlib.Core.Path.{_≡_, ap, _∙_}
-use mathlib.Core.List.{List, [], _∷_, _++_}
-use Prim.Native.Nat.{ℕ, _+_, _≤_, _<_}
-use native.Mathlib.Numerals.{add-one}
-use native.Mathlib.Omega.{arith}
-use lib.ListN.{length, take, drop, set, getD}
-use lib.Seq.{slice, slice-cons, slice-empty, take-suc-set, append-snoc, take-set-lt, drop-set-lt}
+use Rattle.answer.proofs.Kit.{_≡_, ap, _∙_, List, [], _∷_, _++_, ℕ, _+_, _≤_, _<_, add-one, arith, length, take, drop, set, getD, slice, slice-cons, slice-empty, take-suc-set, append-snoc, take-set-lt, drop-set-lt}
 
 module _ {A : Type 0} (l : List A) (i n : ℕ) where
   pub next : (d : A) → i < n → n ≤ length l → slice i n l ≡ getD l i d ∷ slice (i + 1) n l

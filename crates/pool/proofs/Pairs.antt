@@ -1,10 +1,5 @@
 -- Laws of the tones of two ranges: as many as the shorter has.
-use mathlib.Core.Path.{_≡_, refl, ap}
-use mathlib.Core.List.{List, [], _∷_}
-use Prim.Native.Nat.{ℕ, suc, _≤_}
-use native.Mathlib.Nat.{not-suc-le-zero, le-of-suc-le-suc}
-use native.Mathlib.Omega.{arith}
-use lib.ListN.{length, take}
+use Rattle.answer.proofs.Kit.{_≡_, refl, ap, List, [], _∷_, ℕ, suc, _≤_, not-suc-le-zero, le-of-suc-le-suc, arith, length, take}
 use Rattle.pool.specs.declared.pool.Tone.{Tone}
 use Rattle.pool.specs.Pool.{toneOf, tonesOf}
 

@@ -9,14 +9,7 @@
 --     pool-is      tones as a pool make one
 --     ordered-tones   the tones of the pool of the first sixteen in order
 --     ordered      the pool of some tones, put in order, is that of the first sixteen in order
-use mathlib.Core.Path.{_≡_, refl, sym, ap, ap₂, _∙_}
-use mathlib.Core.List.{List, [], _∷_, _++_}
-use Prim.Native.Nat.{ℕ, zero, suc, _≤_, _<_}
-use native.Mathlib.Nat.{min-eq-left, min-eq-right}
-use native.Mathlib.Omega.{arith}
-use lib.ListN.{length, take, drop, length-take, length-append, length-drop, length-replicate, take-append-drop}
-use lib.Seq.{take-at, drop-at, take-all, length-take-le}
-use borrow.Author.Tests.{le-leb}
+use Rattle.answer.proofs.Kit.{_≡_, refl, sym, ap, ap₂, _∙_, List, [], _∷_, _++_, ℕ, zero, suc, _≤_, _<_, min-eq-left, min-eq-right, arith, length, take, drop, length-take, length-append, length-drop, length-replicate, take-append-drop, take-at, drop-at, take-all, length-take-le, le-leb}
 use Rattle.pool.specs.declared.pool.Tone.{Tone}
 use Rattle.pool.specs.declared.pool.Pool.{Pool}
 use Rattle.pool.specs.Pool.{toneOf, tonesOf}

@@ -3,12 +3,12 @@ use mathlib.Core.Bool.{Bool, false, _||_}
 use mathlib.Core.List.{List, [], _∷_}
 use Prim.Native.Nat.{ℕ}
 use Rattle.intervals.specs.Intervals.{numbered, classOf}
-use Rattle.intervals.specs.declared.interval.Numbered.{Numbered}
-use Rattle.intervals.specs.declared.interval.Numbered.the-variants.{Is, Nothing}
+use Rattle.intervals.specs.declared.interval.MaybeInterval.{MaybeInterval}
+use Rattle.intervals.specs.declared.interval.MaybeInterval.the-variants.{Is, Nothing}
 use Rattle.pool.specs.declared.pool.Tone.{Tone}
 
 -- of an interval, or 0 of none
-abbrev pub baseNamed : Numbered → ℕ
+abbrev pub baseNamed : MaybeInterval → ℕ
 baseNamed (Is i) = classOf i
 baseNamed Nothing = 0
 

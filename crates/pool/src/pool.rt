@@ -1,6 +1,6 @@
 // The pool of a chord's tones, as the Rust's `voicings/mod.rs` gathers it.
 use intervals::interval::Interval;
-use intervals::interval::Numbered;
+use intervals::interval::MaybeInterval;
 ghost use mathlib.Core.Path.{_≡_};
 ghost use mathlib.Core.List.{_++_};
 ghost use Prim.Native.Nat.{_≤_};
@@ -35,8 +35,8 @@ fn base(interval: u8) -> u8
     ensures { λ r. ⌜ r ≡ baseOf interval ⌝ }
 {
     match Interval::from_number(interval as u32) {
-        Numbered::Is(named) => (named.st() % 12) as u8,
-        Numbered::Nothing => 0,
+        MaybeInterval::Is(named) => (named.st() % 12) as u8,
+        MaybeInterval::Nothing => 0,
     }
 }
 

@@ -4,13 +4,7 @@
 --     tests, first   the quality by the code's tests and by the paper's rules
 --     answer         what the chain comes to is the quality
 --     chained        that, by the tests that the code made
-use mathlib.Core.Path.{_≡_, refl, ap₂, _∙_}
-use mathlib.Core.Bool.{Bool, true, cond, _&&_, and-true}
-use mathlib.Core.List.{List, [], _∷_, _++_}
-use Prim.Native.Nat.{ℕ, _<_}
-use lib.Bits.{bitAnd}
-use lib.Count.{ones}
-use lib.Dec.{T, eqb}
+use Rattle.answer.proofs.Kit.{_≡_, refl, ap₂, _∙_, Bool, true, cond, _&&_, and-true, List, [], _∷_, _++_, ℕ, _<_, bitAnd, ones, T, eqb}
 use Rattle.answer.proofs.Chosen.{test, yes, no-then}
 use Rattle.answer.proofs.Tests.{left, right}
 use Rattle.intervals.specs.Sets.{has, hasAll, hasNone, bits}

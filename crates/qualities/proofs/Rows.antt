@@ -1,6 +1,6 @@
 -- Laws of the table of qualities.
 --     kept          the row of a quality tells of it
-use mathlib.Core.Path.{_≡_, sym, ap}
+use Rattle.answer.proofs.Kit.{_≡_, sym, ap}
 use Rattle.qualities.specs.Qualities.{qualityNumber}
 use Rattle.qualities.specs.Masks.{ownBits, alterationBits, extensionBits, stackBits}
 use Rattle.qualities.specs.private.Rows.{Tells}

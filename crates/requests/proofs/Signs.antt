@@ -4,17 +4,10 @@
 --     minus-fits       minus a number that is above the lowest and below 0
 --     minus-plain      and that is not below 0
 --     small-minus      minus a size below 1,000
-use mathlib.Core.Path.{_≡_, sym, ap, _∙_}
-use mathlib.Core.Bool.{true, false}
-use Prim.Native.Nat.{ℕ, zero, suc, _<_, _^_}
-use native.Mathlib.Omega.{arith}
-use lib.Dec.{T, ltb→lt}
-use lib.IntN.{ℤ, pos, negsuc, negℤ, natAbs, _-ℤ_, +ℤ-idl}
-use lib.Signed.{leZ, ltZ, nonNeg}
+use Rattle.answer.proofs.Kit.{_≡_, sym, ap, _∙_, true, false, ℕ, zero, suc, _<_, _^_, arith, T, ltb→lt, ℤ, pos, negsuc, negℤ, natAbs, _-ℤ_, +ℤ-idl, leZ, ltZ, nonNeg, lt-ltb, le-leb}
 use mir.Syntax.{w32, w64}
 use mir.Val.{SFits, Fits, toZ, ofZ}
 use mir.Facts.{toZ-ofZ}
-use borrow.Author.Tests.{lt-ltb, le-leb}
 use Rattle.answer.proofs.Tests.{said}
 
 abbrev held : ℤ → ℤ

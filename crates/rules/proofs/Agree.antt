@@ -1,11 +1,7 @@
 -- Two forms of one thing agree at each number: one test that is computed, and these laws.
 --     agree                 two numbers, at each number below a bound
 --     same-bool, same-all   two Bools, and two lists of texts, are the same
-use mathlib.Core.Path.{_≡_, refl, ap₂}
-use mathlib.Core.Bool.{Bool, true, false, not, _&&_}
-use mathlib.Core.List.{List, [], _∷_}
-use Prim.Native.Nat.{ℕ, _<_}
-use lib.Dec.{T, eqb, eqb→eq}
+use Rattle.answer.proofs.Kit.{_≡_, refl, ap₂, Bool, true, false, not, _&&_, List, [], _∷_, ℕ, _<_, T, eqb, eqb→eq}
 use Rattle.answer.specs.Words.{same}
 use Rattle.answer.proofs.Tests.{left, right, all, at, same→eq}
 

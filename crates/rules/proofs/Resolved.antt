@@ -1,7 +1,6 @@
 -- What the code makes of the classes of a set is what the paper says: a test at each of the 4,096 sets for each step.
-use mathlib.Core.Path.{_≡_, ap, _∙_}
-use Prim.Native.Nat.{ℕ, _*_, _/_, _%_, _<_}
-use lib.Bits.{bitAnd, bitOr, or-comm}
+use Rattle.answer.proofs.Kit.{_≡_, ap, _∙_, ℕ, _*_, _/_, _%_, _<_, bitAnd, bitOr}
+use lib.Bits.{or-comm}
 use Rattle.answer.proofs.Chosen.{test}
 use Rattle.intervals.specs.Intervals.{setOf}
 use Rattle.rules.specs.Classes.{atOnce, ofClass3, ofClass6, ofClass9, ofClass8, intervalsOf}

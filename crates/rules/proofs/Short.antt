@@ -4,13 +4,7 @@
 --     suffix-short     the paper's
 --     suffix-line      no end of line
 --     suffix-room      so no call's answer has more than 64 bytes
-use mathlib.Core.Path.{_≡_, refl}
-use mathlib.Core.Bool.{Bool, true, false, cond, _&&_}
-use mathlib.Core.List.{List}
-use Prim.Native.Nat.{ℕ, _≤_}
-use native.Mathlib.Omega.{arith}
-use lib.Dec.{T, eqb, leb, eqb→eq, leb→le}
-use lib.ListN.{length}
+use Rattle.answer.proofs.Kit.{_≡_, refl, Bool, true, false, cond, _&&_, List, ℕ, _≤_, arith, T, eqb, leb, eqb→eq, leb→le, length}
 use Rattle.answer.specs.Lines.{lineFeeds}
 use Rattle.answer.specs.Replies.{AtMost, refuse, text}
 use Rattle.answer.specs.declared.refusal.Refusal.the-variants.{NotASet}

@@ -1,12 +1,7 @@
 -- What the code computes of a rooted set is what the rules say of it: one test at each of the 2,048, in two halves, which
 -- reads the set once.
 --     rule       the test of a number holds
-use mathlib.Core.Path.{_≡_}
-use mathlib.Core.Bool.{Bool, true, cond, not, _&&_, _||_}
-use mathlib.Core.List.{List, [], _∷_, _++_, map}
-use Prim.Native.Nat.{ℕ, zero, suc, _+_}
-use lib.Bits.{bitAnd, bitOr, bitXor}
-use lib.Dec.{T, eqb}
+use Rattle.answer.proofs.Kit.{_≡_, Bool, true, cond, not, _&&_, _||_, List, [], _∷_, _++_, map, ℕ, zero, suc, _+_, bitAnd, bitOr, bitXor, T, eqb}
 use Rattle.answer.specs.Words.{bytes}
 use Rattle.answer.proofs.Chosen.{test}
 use Rattle.answer.proofs.Tests.{left, right, all}
@@ -14,8 +9,8 @@ use Rattle.intervals.specs.Sets.{isRooted, bits}
 use Rattle.intervals.specs.Intervals.{numericOf, setOf, numberOf}
 use Rattle.intervals.specs.declared.interval.Interval.{Interval}
 use Rattle.intervals.specs.declared.interval.Interval.the-variants.{Ninth}
-use Rattle.intervals.specs.declared.interval.Numbered.{Numbered}
-use Rattle.intervals.specs.declared.interval.Numbered.the-variants.{Is, Nothing}
+use Rattle.intervals.specs.declared.interval.MaybeInterval.{MaybeInterval}
+use Rattle.intervals.specs.declared.interval.MaybeInterval.the-variants.{Is, Nothing}
 use Rattle.intervals.proofs.Rooted.{rooted, by-halves}
 use Rattle.qualities.specs.Masks.{alterationBits, extensionBits, stackBits, ownBits}
 use Rattle.qualities.specs.declared.quality.ChordQuality.{ChordQuality}
@@ -29,7 +24,7 @@ use Rattle.rules.proofs.Agree.{same-bool, same-all}
 use Rattle.rules.proofs.Computed.{named-computed}
 
 -- a modifier as a number
-abbrev pub placeOf : Numbered → ℕ
+abbrev pub placeOf : MaybeInterval → ℕ
 placeOf (Is i) = numberOf i
 placeOf Nothing = 23
 

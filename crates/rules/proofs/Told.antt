@@ -1,16 +1,11 @@
 -- What the code computes of a rooted set, step by step, is what the paper says of it: by the test at each of the 2,048.
-use mathlib.Core.Path.{_≡_, sym, ap, _∙_}
-use mathlib.Core.Bool.{true}
-use mathlib.Core.List.{List, [], _++_, map}
-use Prim.Native.Nat.{ℕ}
-use lib.Bits.{bitAnd, bitOr}
-use lib.Dec.{eqb→eq}
+use Rattle.answer.proofs.Kit.{_≡_, sym, ap, _∙_, true, List, [], _++_, map, ℕ, bitAnd, bitOr, eqb→eq}
 use Rattle.answer.specs.Words.{bytes}
 use Rattle.intervals.specs.Sets.{isRooted, bits}
 use Rattle.intervals.specs.Intervals.{numbered, numericOf, setOf}
 use Rattle.intervals.specs.declared.interval.Interval.{Interval}
-use Rattle.intervals.specs.declared.interval.Numbered.{Numbered}
-use Rattle.intervals.specs.declared.interval.Numbered.the-variants.{Is, Nothing}
+use Rattle.intervals.specs.declared.interval.MaybeInterval.{MaybeInterval}
+use Rattle.intervals.specs.declared.interval.MaybeInterval.the-variants.{Is, Nothing}
 use Rattle.intervals.proofs.Rows.{numbered-back, numbered-none}
 use Rattle.qualities.specs.Masks.{alterationBits, extensionBits, stackBits, ownBits}
 use Rattle.qualities.specs.declared.quality.ChordQuality.{ChordQuality}
@@ -24,7 +19,7 @@ use Rattle.rules.proofs.Agree.{same-bool→eq, same-all→eq}
 use Rattle.rules.proofs.Tested.{placeOf, nineOf, addsFound, rule}
 
 -- a modifier's number names it
-at-place : (n : Numbered) → numbered (placeOf n) ≡ n
+at-place : (n : MaybeInterval) → numbered (placeOf n) ≡ n
 at-place (Is i) = numbered-back i
 at-place Nothing = numbered-none
 

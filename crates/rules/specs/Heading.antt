@@ -8,8 +8,8 @@ use Rattle.answer.specs.Words.{bytes}
 use Rattle.intervals.specs.Intervals.{notationOf}
 use Rattle.intervals.specs.declared.interval.Interval.{Interval}
 use Rattle.intervals.specs.declared.interval.Interval.the-variants.{Ninth}
-use Rattle.intervals.specs.declared.interval.Numbered.{Numbered}
-use Rattle.intervals.specs.declared.interval.Numbered.the-variants.{Is, Nothing}
+use Rattle.intervals.specs.declared.interval.MaybeInterval.{MaybeInterval}
+use Rattle.intervals.specs.declared.interval.MaybeInterval.the-variants.{Is, Nothing}
 use Rattle.qualities.specs.declared.quality.ChordQuality.{ChordQuality}
 use Rattle.qualities.specs.declared.quality.ChordQuality.the-variants.{Maj, Maj6, Maj7, Dominant7, Mi, Mi6, Mi7, MiMaj7, Augmented, Diminished, Diminished7, Power, Bass}
 use Rattle.rules.specs.Classes.{among, intervalsOf}
@@ -33,7 +33,7 @@ wording Power = []
 wording Bass = []
 
 -- how a chord writes an interval, or a text where there is none
-abbrev pub orElse : String → Numbered → List ℕ
+abbrev pub orElse : String → MaybeInterval → List ℕ
 orElse without (Is i) = notationOf i
 orElse without Nothing = bytes without
 
@@ -46,7 +46,7 @@ abbrev pub unmodified : ChordQuality → List ℕ
 unmodified q = cond (isOneOf q (Maj7 ∷ Dominant7 ∷ Mi7 ∷ MiMaj7 ∷ [])) (bytes "7") []
 
 -- the modifier, where the quality shows one, or what 002 writes where there is none
-abbrev pub modified : ChordQuality → Numbered → List ℕ
+abbrev pub modified : ChordQuality → MaybeInterval → List ℕ
 modified q (Is i) = cond (showsModifier q) (notationOf i) []
 modified q Nothing = unmodified q
 

@@ -10,8 +10,8 @@ use Rattle.intervals.specs.declared.interval.Interval.{Interval}
 use Rattle.intervals.specs.declared.interval.Interval.the-variants.{MajorSeventh, Ninth, Eleventh, Thirteenth}
 use Rattle.intervals.specs.declared.interval.IntDegree.{IntDegree}
 use Rattle.intervals.specs.declared.interval.IntDegree.the-variants.{Seventh}
-use Rattle.intervals.specs.declared.interval.Numbered.{Numbered}
-use Rattle.intervals.specs.declared.interval.Numbered.the-variants.{Is, Nothing}
+use Rattle.intervals.specs.declared.interval.MaybeInterval.{MaybeInterval}
+use Rattle.intervals.specs.declared.interval.MaybeInterval.the-variants.{Is, Nothing}
 use Rattle.qualities.specs.declared.quality.ChordQuality.{ChordQuality}
 use Rattle.qualities.specs.declared.quality.ChordQuality.the-variants.{Maj7, Dominant7, Mi7, MiMaj7, Diminished, Diminished7}
 use Rattle.rules.specs.Classes.{is, keep}
@@ -52,13 +52,13 @@ unstackedOf q ints =
     let degrees = degreesOf q ints in keep (λ e. not (reaches degrees (maskOf q .stack) (degreeOf e))) (Ninth ∷ Eleventh ∷ Thirteenth ∷ [])
 
 -- the last of a list, if it has one
-unfoldable pub lastOf : List Interval → Numbered
+unfoldable pub lastOf : List Interval → MaybeInterval
 lastOf [] = Nothing
 lastOf (i ∷ []) = Is i
 lastOf (i ∷ j ∷ more) = lastOf (j ∷ more)
 
 -- "Any other extension becomes the modifier, replacing an earlier one": the last that is stacked
-unfoldable pub modifierOf : ChordQuality → List Interval → Numbered
+unfoldable pub modifierOf : ChordQuality → List Interval → MaybeInterval
 modifierOf q ints =
     let degrees = degreesOf q ints in cond (isDiminished q) Nothing (lastOf (keep (isStacked q degrees) (extensionsOf q ints)))
 

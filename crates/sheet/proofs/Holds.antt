@@ -1,12 +1,6 @@
 -- The proof sheet holds: each of its rows is computed. A listing runs the suffix of every rooted set.
 --     sheet-holds     all twelve rows
-use mathlib.Core.Path.{_≡_, refl, ap, _∙_}
-use mathlib.Core.Bool.{Bool, true, cond, _&&_}
-use mathlib.Core.List.{List, [], _∷_}
-use Prim.Native.Nat.{ℕ, zero, suc, _+_, _-_, _*_, _%_}
-use native.Mathlib.Omega.{arith}
-use lib.Dec.{T}
-use lib.ListN.{getD}
+use Rattle.answer.proofs.Kit.{_≡_, refl, ap, _∙_, Bool, true, cond, _&&_, List, [], _∷_, ℕ, zero, suc, _+_, _-_, _*_, _%_, arith, T, getD}
 use Rattle.answer.specs.Words.{bytes, same}
 use Rattle.answer.specs.Replies.{text}
 use Rattle.answer.proofs.Tests.{left, right as right′, same→eq}
@@ -17,7 +11,7 @@ use Rattle.rules.proofs.Computed.{suffix-computed}
 use Rattle.intervals.proofs.Rooted.{is-rooted, at-rooted}
 use Rattle.rules.proofs.Agree.{same-bool, same-bool→eq}
 use Rattle.listing.specs.Listing.{matching, setsOf, inBytes, listingOf}
-use Rattle.voicings.proofs.Opened.{voicing-opened}
+use Rattle.voicings.proofs.Computed.{voicing-computed}
 use Rattle.sheet.specs.Sheet.{gives, answerOf, Row, sheet, Holds, AllHold}
 
 -- the sets of the two listings of the sheet
@@ -100,7 +94,7 @@ listings = (
 )
 
 voicings : Holds (at 9) × Holds (at 10) × Holds (at 11)
-unfolding voicing-opened answerOf
+unfolding voicing-computed answerOf
 voicings = (refl, refl, refl)
 
 pub sheet-holds : AllHold sheet

@@ -1,12 +1,7 @@
 -- The intervals of a rooted set: a test at each of the 2,048.
 --     at-least-one, at-most-twelve     how many they are
 --     set-reads      the number that has their bits gives them back
-use mathlib.Core.Path.{_≡_, ap}
-use mathlib.Core.Bool.{Bool, true, _&&_}
-use mathlib.Core.List.{List, _++_}
-use Prim.Native.Nat.{ℕ, _≤_}
-use lib.Dec.{T, eqb, leb, eqb→eq, leb→le}
-use lib.ListN.{length}
+use Rattle.answer.proofs.Kit.{_≡_, ap, Bool, true, _&&_, List, _++_, ℕ, _≤_, T, eqb, leb, eqb→eq, leb→le, length}
 use Rattle.answer.proofs.Tests.{left, right}
 use Rattle.intervals.specs.Sets.{isRooted}
 use Rattle.intervals.specs.Intervals.{setOf}

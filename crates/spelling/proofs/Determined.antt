@@ -1,6 +1,6 @@
 -- Determinacy of the crate's public contract (`Rattle.answer.proofs.Determined` has the law).
 --     tones-decides      the contract of `tones` allows one answer to each call, and one content of the range that it is lent
-use denote.Ref.{now}
+use Rattle.answer.proofs.Kit.{now}
 use Rattle.answer.proofs.Determined.{DecidesWith, both}
 use Rattle.spelling.proofs.tones.tones.Reads as tones
 

@@ -1,7 +1,5 @@
 -- What a call for the tones has to give, by the tests on its numbers, for any table of degrees.
-use mathlib.Core.Path.{_≡_, ap}
-use mathlib.Core.Bool.{Bool, true, false, cond}
-use Prim.Native.Nat.{ℕ}
+use Rattle.answer.proofs.Kit.{_≡_, ap, Bool, true, false, cond, ℕ}
 use Rattle.answer.specs.Replies.{refuse}
 use Rattle.answer.specs.declared.refusal.Refusal.the-variants.{NotASet}
 use Rattle.intervals.specs.Sets.{isRooted}

@@ -3,13 +3,7 @@
 --                      and another, at each rooted set, that its digits' sum is at most 35
 --     tones-room       no call's answer has more than 34 bytes
 --     tones-reached    one has 34
-use mathlib.Core.Path.{_≡_, refl, sym}
-use mathlib.Core.Bool.{Bool, true, false, _&&_}
-use mathlib.Core.List.{List, [], _∷_}
-use Prim.Native.Nat.{ℕ, zero, suc, _+_, _/_, _%_, _^_, _≤_}
-use native.Mathlib.Omega.{arith}
-use lib.Dec.{T, eqb, leb, eqb→eq, leb→le}
-use lib.ListN.{length, length-append}
+use Rattle.answer.proofs.Kit.{_≡_, refl, sym, Bool, true, false, _&&_, List, [], _∷_, ℕ, zero, suc, _+_, _/_, _%_, _^_, _≤_, arith, T, eqb, leb, eqb→eq, leb→le, length, length-append}
 use Rattle.answer.specs.Words.{bytes}
 use Rattle.answer.specs.Replies.{AtMost}
 use Rattle.answer.proofs.Tests.{left, right, all}

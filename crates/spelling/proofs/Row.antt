@@ -1,12 +1,5 @@
 -- The loop of `put_tones`: where it stands, what a turn does, and what is given of the row that it writes, for any table of degrees.
-use mathlib.Core.Path.{_≡_, refl, ap, _∙_}
-use mathlib.Core.List.{List, [], _∷_, _++_, append-assoc}
-use Prim.Native.Nat.{ℕ, zero, suc, _+_, _*_, _%_, _-_, _^_, _≤_, _<_}
-use native.Mathlib.Omega.{arith}
-use native.Mathlib.Nat.{not-suc-le-zero}
-use lib.Count.{trailingZeros}
-use lib.Dec.{T}
-use lib.ListN.{length, take, drop, length-append}
+use Rattle.answer.proofs.Kit.{_≡_, refl, ap, _∙_, List, [], _∷_, _++_, append-assoc, ℕ, zero, suc, _+_, _*_, _%_, _-_, _^_, _≤_, _<_, arith, not-suc-le-zero, trailingZeros, T, length, take, drop, length-append}
 use Rattle.answer.specs.Words.{bytes, low, packed, placeAfter, putAt}
 use Rattle.answer.proofs.Digits.{isShort, areBytes, short-length}
 use Rattle.answer.proofs.Tests.{left}
@@ -15,8 +8,8 @@ use Rattle.intervals.specs.Intervals.{numbered}
 use Rattle.notes.specs.declared.note.Note.{Note}
 use Rattle.intervals.specs.declared.interval.Interval.{Interval}
 use Rattle.intervals.specs.declared.interval.IntDegree.{IntDegree}
-use Rattle.intervals.specs.declared.interval.Numbered.{Numbered}
-use Rattle.intervals.specs.declared.interval.Numbered.the-variants.{Is, Nothing}
+use Rattle.intervals.specs.declared.interval.MaybeInterval.{MaybeInterval}
+use Rattle.intervals.specs.declared.interval.MaybeInterval.the-variants.{Is, Nothing}
 use Rattle.rules.specs.Classes.{intervalsIn}
 use Rattle.inference.proofs.First.{First, lowest-of, bit, none-in}
 use Rattle.spelling.specs.Tones.{numberedName, toneNames, spaced, joined}
@@ -34,7 +27,7 @@ pub begin : (degrees : Interval → IntDegree) (root : Note) (l : List ℕ) (set
     → Row degrees root l set l 0 set
 begin degrees root l set h room = record { so-far = so-far-none l 0 (rowOf degrees root set); small = h; room = omega (arith, room) }
 
-pub numbered-short : (degrees : Interval → IntDegree) (root : Note) (m : Numbered) → T (isShort (numberedName degrees root m))
+pub numbered-short : (degrees : Interval → IntDegree) (root : Note) (m : MaybeInterval) → T (isShort (numberedName degrees root m))
 unfolding isShort areBytes
 numbered-short degrees root (Is i) = tone-short degrees root i
 numbered-short degrees root Nothing = tt

@@ -1,5 +1,5 @@
 -- Paper 01, "Engraver's proof sheet": "tones of 73 on C; 137 on Gb" are `C Eb F#` and `Gb Bbb Db`.
-use mathlib.Core.Path.{_≡_, refl}
+use Rattle.answer.proofs.Kit.{_≡_, refl}
 use Rattle.answer.specs.Words.{bytes}
 use Rattle.answer.specs.Replies.{text}
 use Rattle.spelling.specs.Tones.{spelledBy, tonesReply}

@@ -1,8 +1,5 @@
 -- Laws of tones.
-use mathlib.Core.Path.{_≡_, _∙_}
-use mathlib.Core.Bool.{true}
-use Prim.Native.Nat.{ℕ, _-_}
-use lib.Dec.{T, leb}
+use Rattle.answer.proofs.Kit.{_≡_, _∙_, true, ℕ, _-_, T, leb}
 use Rattle.answer.specs.Words.{packed}
 use Rattle.answer.proofs.Digits.{isShort}
 use Rattle.answer.proofs.Tests.{is-true, all}
@@ -17,8 +14,8 @@ use Rattle.intervals.specs.declared.interval.Interval.the-variants.{Ninth, Elev
 use Rattle.intervals.specs.declared.interval.IntDegree.{IntDegree}
 use Rattle.intervals.specs.declared.interval.IntDegree.the-variants.{Root, Second, Third, Fourth, Fifth, Sixth, Seventh}
 use Rattle.intervals.specs.declared.interval.IntDegree.the-variants as Degree
-use Rattle.intervals.specs.declared.interval.Numbered.{Numbered}
-use Rattle.intervals.specs.declared.interval.Numbered.the-variants as Number
+use Rattle.intervals.specs.declared.interval.MaybeInterval.{MaybeInterval}
+use Rattle.intervals.specs.declared.interval.MaybeInterval.the-variants as Number
 use Rattle.notes.proofs.Names.{name-short}
 use Rattle.notes.proofs.Sounding.{move-is}
 use Rattle.spelling.specs.Tones.{toneOf, toneName, numberedName}
@@ -55,7 +52,7 @@ unfolding toneName toneOf
 tone-short degrees n i = name-short (toneOf degrees n i) (move-is n (semitonesOf i) (numericOf (degrees i)))
 
 -- the word of the move at an interval's semitones and degree is that of its tone
-pub tone-worded : (degrees : Interval → IntDegree) (root : Note) (m : Numbered) (i : Interval) (d : IntDegree) (semitones degree r : ℕ)
+pub tone-worded : (degrees : Interval → IntDegree) (root : Note) (m : MaybeInterval) (i : Interval) (d : IntDegree) (semitones degree r : ℕ)
     → m ≡ Number.Is i → d ≡ degrees i → semitones ≡ semitonesOf i → degree ≡ numericOf d
     → r ≡ packed (noteName signs (getNote root semitones degree)) → r ≡ packed (numberedName degrees root m)
 unfolding toneName toneOf

@@ -9,8 +9,8 @@ use Rattle.intervals.specs.Sets.{isRooted}
 use Rattle.intervals.specs.Intervals.{semitonesOf, degreeOf, numericOf}
 use Rattle.intervals.specs.declared.interval.Interval.{Interval}
 use Rattle.intervals.specs.declared.interval.IntDegree.{IntDegree}
-use Rattle.intervals.specs.declared.interval.Numbered.{Numbered}
-use Rattle.intervals.specs.declared.interval.Numbered.the-variants.{Is, Nothing}
+use Rattle.intervals.specs.declared.interval.MaybeInterval.{MaybeInterval}
+use Rattle.intervals.specs.declared.interval.MaybeInterval.the-variants.{Is, Nothing}
 use Rattle.notes.specs.Notes.{getNote}
 use Rattle.notes.specs.NoteText.{signs, noteName}
 use Rattle.notes.specs.declared.note.Note.{Note}
@@ -32,7 +32,7 @@ unfoldable pub toneName : (Interval → IntDegree) → Note → Interval → Lis
 toneName degrees root i = noteName signs (toneOf degrees root i)
 
 -- the same for what a number names: of no interval, nothing
-abbrev pub numberedName : (Interval → IntDegree) → Note → Numbered → List ℕ
+abbrev pub numberedName : (Interval → IntDegree) → Note → MaybeInterval → List ℕ
 numberedName degrees root (Is i) = toneName degrees root i
 numberedName degrees root Nothing = []
 

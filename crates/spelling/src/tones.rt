@@ -5,7 +5,7 @@ use answer::refusal::Refusal;
 use answer::word::put;
 use descriptors::classes::intervals;
 use intervals::interval::Interval;
-use intervals::interval::Numbered;
+use intervals::interval::MaybeInterval;
 use intervals::set::is_rooted;
 use names::table::class_note;
 use notes::note::Note;
@@ -47,11 +47,11 @@ fn numbered_word(root: Note, number: u32) -> u64
     ensures { λ r. ⌜ r ≡ packed (numberedName spelledBy root (numbered number)) ⌝ }
 {
     match Interval::from_number(number) {
-        Numbered::Is(interval) => {
+        MaybeInterval::Is(interval) => {
             let degree = interval.degree();
             tone_word(root, interval.st(), degree.numeric())
         }
-        Numbered::Nothing => 0,
+        MaybeInterval::Nothing => 0,
     }
 }
 

@@ -1,6 +1,6 @@
 -- Determinacy of the crate's public contract (`Rattle.answer.proofs.Determined` has the law).
 --     voicing-decides      the contract of `voicing` allows one answer to each call, and one content of the range that it is lent
-use denote.Ref.{now}
+use Rattle.answer.proofs.Kit.{now}
 use Rattle.answer.proofs.Determined.{DecidesWith, both}
 use Rattle.voicings.proofs.voicing.voicing.Reads as voicing
 

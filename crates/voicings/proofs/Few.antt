@@ -1,12 +1,7 @@
 -- How many keys are placed: never more than the pool has tones.
 --     few-of, few-guides, few-tensions
-use mathlib.Core.Bool.{Bool, true, false, cond, _||_}
-use mathlib.Core.List.{List, [], _∷_}
+use Rattle.answer.proofs.Kit.{Bool, true, false, cond, _||_, List, [], _∷_, ℕ, zero, suc, _≤_, le-trans, arith, length}
 use mathlib.Core.Option.{Option, none, some, Option·elim}
-use Prim.Native.Nat.{ℕ, zero, suc, _≤_}
-use native.Mathlib.Nat.{le-trans}
-use native.Mathlib.Omega.{arith}
-use lib.ListN.{length}
 use Rattle.intervals.specs.Sets.{has}
 use Rattle.pool.specs.declared.pool.Tone.{Tone}
 use Rattle.keys.specs.Choice.{ToneKey, keysOfTones, nearest, without, chosen, otherTones, placedIn, placed}

@@ -1,11 +1,6 @@
 -- Theorem on the room of a voicing.
 --     voicing-room    two bass keys, sixteen guides, sixteen tensions and the lead: what the header says is enough
-use mathlib.Core.Bool.{Bool, true, false, cond, _&&_}
-use mathlib.Core.List.{List}
-use Prim.Native.Nat.{ℕ, suc, _+_, _≤_}
-use native.Mathlib.Omega.{arith}
-use lib.Dec.{T, leb, leb→le}
-use lib.ListN.{length, length-append}
+use Rattle.answer.proofs.Kit.{Bool, true, false, cond, _&&_, List, ℕ, suc, _+_, _≤_, arith, T, leb, leb→le, length, length-append}
 use Rattle.answer.specs.Replies.{AtMost, refuse, text}
 use Rattle.answer.specs.declared.refusal.Refusal.the-variants.{BadClass, TooManyPairs, BadPair}
 use Rattle.pool.specs.declared.pool.Tone.{Tone}

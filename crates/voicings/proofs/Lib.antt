@@ -5,5 +5,5 @@ pub mod Few
 pub mod Replied
 pub mod Laws
 pub mod Musician
-pub mod Opened
+pub mod Computed
 pub mod Determined

@@ -5,14 +5,7 @@
 --     above-sounds   so is each key above the bass, but for that 0
 --     midi-keys      where the highest is at most 127, no key of a voicing is above 127
 --     product-keys   so it is with the product's range
-use mathlib.Core.Path.{_≡_, sym, subst, _∙_}
-use mathlib.Core.Bool.{true, _&&_}
-use mathlib.Core.List.{List, [], _∷_, _++_, List·Memᴰ, List·Memᴰ·not-nil, List·Memᴰ·cases-cons, List·Memᴰ·append-cases, List·Memᴰ·eq-of-singleton}
-use mathlib.Core.Logic.{_⊎_, inl, inr, ⊎-elim}
-use Prim.Native.Nat.{ℕ, suc, _+_, _%_, _≤_, _<_}
-use native.Mathlib.Nat.{mod-eq-of-lt}
-use native.Mathlib.Omega.{arith}
-use lib.Dec.{leb, leb→le}
+use Rattle.answer.proofs.Kit.{_≡_, sym, subst, _∙_, true, _&&_, List, [], _∷_, _++_, List·Memᴰ, List·Memᴰ·not-nil, List·Memᴰ·cases-cons, List·Memᴰ·append-cases, List·Memᴰ·eq-of-singleton, _⊎_, inl, inr, ⊎-elim, ℕ, suc, _+_, _%_, _≤_, _<_, mod-eq-of-lt, arith, leb, leb→le}
 use Rattle.answer.proofs.Tests.{left, right, is-true, said}
 use Rattle.pool.specs.declared.pool.Tone.{Tone}
 use Rattle.pool.specs.Pool.{tonesOf}

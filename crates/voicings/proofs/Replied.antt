@@ -2,14 +2,7 @@
 --     no-class, too-many, bad-pair    refusals 2, 3 and 4
 --     gives-voicing                   the voicing
 --     few-bass                        at most two keys stand below the guides
-use mathlib.Core.Path.{_≡_}
-use mathlib.Core.Bool.{Bool, true, false, _&&_}
-use mathlib.Core.List.{List}
-use Prim.Native.Nat.{ℕ, _≤_, _<_}
-use native.Mathlib.Omega.{arith}
-use lib.Dec.{leb}
-use lib.ListN.{length}
-use borrow.Author.Tests.{lt-leb, le-leb}
+use Rattle.answer.proofs.Kit.{_≡_, Bool, true, false, _&&_, List, ℕ, _≤_, _<_, arith, leb, length, lt-leb, le-leb}
 use Rattle.answer.specs.Replies.{refuse, text}
 use Rattle.answer.specs.declared.refusal.Refusal.the-variants.{BadClass, TooManyPairs, BadPair}
 use Rattle.voicings.specs.declared.voicing.Bass.{Bass}

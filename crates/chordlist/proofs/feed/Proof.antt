@@ -1,11 +1,6 @@
 -- `chordlist::feed` meets its contract. The loop's invariant: the line holds what is kept after the first `i` bytes.
-use mathlib.Core.Path.{_≡_, refl, sym, _∙_}
-use Prim.Native.Nat.{_-_, _≤_}
-use native.Mathlib.Omega.{arith}
-use lib.ListN.{length as size, take}
-use lib.Seq.{length-take-le, take-length}
-use denote.Ref.{now}
-use borrow.Author.Needs.{needs}
+use Rattle.answer.proofs.Kit.{_≡_, refl, sym, _∙_, _-_, _≤_, arith, take, length-take-le, take-length, now, needs}
+use lib.ListN.{length as size}
 use Rattle.answer.specs.Written.{Writes}
 use Rattle.chordlist.specs.private.Calls.{mostPrinted}
 use Rattle.chordlist.specs.private.Pieces.{mostKept, heldAfter}

@@ -1,10 +1,6 @@
 -- `chordlist::main` is safe and ends: the line and the input keep their lengths, and the turns count down.
-use mathlib.Core.Path.{_≡_, refl, sym, _∙_}
-use Prim.Native.Nat.{_≤_}
-use native.Mathlib.Omega.{arith}
-use lib.ListN.{length as size, take, length-take}
-use lib.Seq.{length-take-le}
-use borrow.Author.Needs.{needs}
+use Rattle.answer.proofs.Kit.{_≡_, refl, sym, _∙_, _≤_, arith, take, length-take, length-take-le, needs}
+use lib.ListN.{length as size}
 use Rattle.chordlist.specs.private.Pieces.{mostKept}
 use Rattle.chordlist.proofs.Printing.{fronted}
 use Rattle.chordlist.proofs.Streams.{held-short}

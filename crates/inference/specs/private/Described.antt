@@ -6,8 +6,8 @@ use lib.Bits.{bitAnd, bitXor}
 use lib.Dec.{eqb}
 use Rattle.answer.specs.Words.{bytes, packed}
 use Rattle.intervals.specs.Intervals.{notationOf}
-use Rattle.intervals.specs.declared.interval.Numbered.{Numbered}
-use Rattle.intervals.specs.declared.interval.Numbered.the-variants.{Is, Nothing}
+use Rattle.intervals.specs.declared.interval.MaybeInterval.{MaybeInterval}
+use Rattle.intervals.specs.declared.interval.MaybeInterval.the-variants.{Is, Nothing}
 use Rattle.rules.specs.Classes.{intervalsIn}
 use Rattle.rules.specs.Heading.{wording, modified}
 use Rattle.rules.specs.Suffix.{worded}
@@ -15,7 +15,7 @@ use Rattle.descriptors.specs.declared.descriptor.Descriptor.{Descriptor}
 use Rattle.inference.specs.private.Prefixes.{prefixText, addWhere}
 
 -- a modifier where a quality shows one, or its word without one
-abbrev pub modifierWord : Bool → ℕ → Numbered → ℕ
+abbrev pub modifierWord : Bool → ℕ → MaybeInterval → ℕ
 modifierWord shows without (Is i) = cond shows (packed (notationOf i)) 0
 modifierWord shows without Nothing = without
 

@@ -3,7 +3,7 @@ use mathlib.Core.Bool.{Bool, cond}
 use mathlib.Core.List.{List, [], _++_}
 use Prim.Native.Nat.{ℕ}
 use Rattle.answer.specs.Words.{bytes}
-use Rattle.intervals.specs.declared.interval.Numbered.{Numbered}
+use Rattle.intervals.specs.declared.interval.MaybeInterval.{MaybeInterval}
 use Rattle.rules.specs.Heading.{orElse}
 use Rattle.inference.specs.declared.wording.Prefix.{Prefix}
 use Rattle.inference.specs.declared.wording.Prefix.the-variants.{None, Add, Omit}
@@ -19,5 +19,5 @@ abbrev pub addWhere : Bool → Prefix
 addWhere first = cond first Add None
 
 -- a part of the parentheses with what stands before it, the first or a later one
-abbrev pub part : Bool → Prefix → Numbered → List ℕ
+abbrev pub part : Bool → Prefix → MaybeInterval → List ℕ
 part first prefix interval = cond first (bytes "(") (bytes ",") ++ prefixText prefix ++ orElse "" interval

@@ -1,8 +1,5 @@
 -- `proofsheet::print_numbers` is safe and ends: it stops at the end of what was written, or of the range.
-use Prim.Native.Nat.{_-_, _≤_}
-use native.Mathlib.Omega.{arith}
-use lib.ListN.{length}
-use borrow.Author.Needs.{needs}
+use Rattle.answer.proofs.Kit.{_-_, _≤_, arith, length, needs}
 use Rattle.proofsheet.proofs.print_numbers.Statement.{statement}
 use Rattle.proofsheet.proofs.print_numbers.Tie as tie
 

@@ -1,7 +1,5 @@
 -- `proofsheet::print_text` is safe: the test says that what was written lies within the range.
-use mathlib.Core.Path.{sym}
-use lib.Seq.{length-take-le}
-use borrow.Author.Needs.{needs}
+use Rattle.answer.proofs.Kit.{sym, length-take-le, needs}
 use Rattle.proofsheet.proofs.print_text.Statement.{statement}
 use Rattle.proofsheet.proofs.print_text.Tie as tie
 

@@ -1,8 +1,5 @@
 -- `requests::candidate_count` is safe: no more bytes are lent than were read.
-use mathlib.Core.Path.{sym}
-use lib.Seq.{length-take-le}
-use native.Mathlib.Omega.{arith}
-use borrow.Author.Needs.{needs}
+use Rattle.answer.proofs.Kit.{sym, length-take-le, arith, needs}
 use Rattle.requests.proofs.candidate_count.Statement.{statement}
 use Rattle.requests.proofs.candidate_count.Tie as tie
 

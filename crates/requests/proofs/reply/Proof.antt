@@ -1,8 +1,5 @@
 -- `requests::reply` is safe: the room is tested before it is lent.
-use mathlib.Core.Path.{sym}
-use lib.Seq.{length-take-le}
-use native.Mathlib.Omega.{arith}
-use borrow.Author.Needs.{needs}
+use Rattle.answer.proofs.Kit.{sym, length-take-le, arith, needs}
 use Rattle.requests.proofs.reply.Statement.{statement}
 use Rattle.requests.proofs.reply.Tie as tie
 

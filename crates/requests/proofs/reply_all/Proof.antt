@@ -1,9 +1,6 @@
 -- `requests::reply_all` is safe and ends: a line begins at or before the place that is looked at.
-use mathlib.Core.Logic.{⊎-elim}
-use Prim.Native.Nat.{_-_, _≤_}
+use Rattle.answer.proofs.Kit.{⊎-elim, _-_, _≤_, arith, needs}
 use lib.ListN.{length as size}
-use native.Mathlib.Omega.{arith}
-use borrow.Author.Needs.{needs}
 use Rattle.requests.proofs.reply_all.Statement.{statement}
 use Rattle.requests.proofs.reply_all.Tie as tie
 

@@ -1,8 +1,5 @@
 -- `requests::voicing` is safe: no more bytes are lent than were read.
-use mathlib.Core.Path.{sym}
-use lib.Seq.{length-take-le}
-use native.Mathlib.Omega.{arith}
-use borrow.Author.Needs.{needs}
+use Rattle.answer.proofs.Kit.{sym, length-take-le, arith, needs}
 use Rattle.requests.proofs.voicing.Statement.{statement}
 use Rattle.requests.proofs.voicing.Tie as tie
 

@@ -6,8 +6,8 @@ use lib.Bits.{bitAnd, bitOr}
 use lib.Dec.{eqb, leb}
 use Rattle.answer.proofs.Chosen.{test}
 use Rattle.intervals.specs.declared.interval.Interval.the-variants.{Ninth, Eleventh, Thirteenth}
-use Rattle.intervals.specs.declared.interval.Numbered.{Numbered}
-use Rattle.intervals.specs.declared.interval.Numbered.the-variants.{Is, Nothing}
+use Rattle.intervals.specs.declared.interval.MaybeInterval.{MaybeInterval}
+use Rattle.intervals.specs.declared.interval.MaybeInterval.the-variants.{Is, Nothing}
 
 -- the set with class 4 put in where it has neither third
 abbrev pub withThirdFrom : ℕ → ℕ → ℕ
@@ -33,7 +33,7 @@ unstackedFrom named own stack =
     bitOr (bitOr (nine % 2 * 131072) (eleven % 2 * 524288)) (thirteen % 2 * 4194304)
 
 -- the last extension that is stacked
-abbrev pub modifierFrom : Bool → ℕ → ℕ → Numbered
+abbrev pub modifierFrom : Bool → ℕ → ℕ → MaybeInterval
 modifierFrom dim extensions unstacked =
     let stacked = bitAnd extensions (4294967295 - bitOr unstacked 16384) in
     cond dim Nothing

@@ -1,13 +1,6 @@
 -- `answer::output::give` meets its contract. The loop's invariant: the first `i` bytes of `out` are those of `from`, and
 -- the others are as they were.
-use mathlib.Core.Path.{_≡_, refl, ap, _∙_}
-use mathlib.Core.List.{_++_}
-use Prim.Native.Nat.{_-_, _≤_}
-use native.Mathlib.Omega.{arith}
-use lib.ListN.{length, take, drop, length-set}
-use lib.Seq.{take-length}
-use denote.Ref.{now}
-use borrow.Author.Needs.{needs}
+use Rattle.answer.proofs.Kit.{_≡_, refl, ap, _∙_, _++_, _-_, _≤_, arith, length, take, drop, length-set, take-length, now, needs}
 use Rattle.answer.specs.declared.output.Output.the-variants.{Written}
 use Rattle.answer.proofs.Rooms.{no-room, written, copied}
 use Rattle.answer.proofs.output.give.Statement.{statement}

@@ -1,7 +1,5 @@
 -- `answer::word::put` meets its contract: eight stores in a row, of the digits of the word.
-use native.Mathlib.Omega.{arith}
-use lib.ListN.{length-set}
-use borrow.Author.Needs.{needs}
+use Rattle.answer.proofs.Kit.{arith, length-set, needs}
 use Rattle.answer.proofs.Digits.{put-nothing, put-whole}
 use Rattle.answer.proofs.word.put.Statement.{statement}
 use Rattle.answer.proofs.word.put.Tie as tie

@@ -1,13 +1,5 @@
 -- `candidates::keys::find` meets its contract. The loop's invariant: what the contract says, of the keys before the one at `i`.
-use mathlib.Core.Path.{_≡_, refl, ap, subst, _∙_}
-use mathlib.Core.Bool.{false}
-use mathlib.Core.List.{List}
-use mathlib.Core.Logic.{⊎-elim}
-use Prim.Native.Nat.{ℕ, _-_, _<_, _≤_}
-use native.Mathlib.Omega.{arith}
-use lib.ListN.{length, take, getD, set, length-set}
-use lib.Seq.{take-length}
-use denote.Ref.{now}
+use Rattle.answer.proofs.Kit.{_≡_, refl, ap, subst, _∙_, false, List, ⊎-elim, ℕ, _-_, _<_, _≤_, arith, length, take, getD, set, length-set, take-length, now}
 use Rattle.intervals.specs.Sets.{has}
 use Rattle.candidates.specs.Keys.{keyClass}
 use Rattle.candidates.specs.private.Finds.{Finds}

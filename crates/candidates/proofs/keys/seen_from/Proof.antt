@@ -1,9 +1,5 @@
 -- `candidates::keys::seen_from` meets its contract. The loop's invariant: what has been seen is the set's classes below `k`.
-use mathlib.Core.Path.{_≡_, refl, ap, ap₂, _∙_}
-use Prim.Native.Nat.{ℕ, _+_, _-_, _*_, _/_, _%_, _^_, _<_, _≤_}
-use native.Mathlib.Nat.{lt-of-lt-of-le}
-use native.Mathlib.Omega.{arith}
-use lib.Pow.{pow-mono}
+use Rattle.answer.proofs.Kit.{_≡_, refl, ap, ap₂, _∙_, ℕ, _+_, _-_, _*_, _/_, _%_, _^_, _<_, _≤_, lt-of-lt-of-le, arith, pow-mono}
 use Rattle.candidates.specs.Keys.{setBelow, setWhere, seenFrom}
 use Rattle.candidates.proofs.Wheres.{below-less}
 use Rattle.candidates.proofs.Turned.{seenBelow, seen-next}

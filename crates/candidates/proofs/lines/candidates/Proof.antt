@@ -1,11 +1,5 @@
 -- `candidates::lines::candidates` meets its contract: the classes are found, their lines fill a buffer from the front, and those are given.
-use mathlib.Core.Path.{_≡_, ap, ap₂, sym, subst, _∙_}
-use mathlib.Core.List.{List}
-use Prim.Native.Nat.{ℕ}
-use native.Mathlib.Omega.{arith}
-use lib.ListN.{length, take}
-use denote.Ref.{now}
-use borrow.Author.Needs.{needs}
+use Rattle.answer.proofs.Kit.{_≡_, ap, ap₂, sym, subst, _∙_, List, ℕ, arith, length, take, now, needs}
 use Rattle.answer.specs.Replies.{text, Answered}
 use Rattle.answer.proofs.Writing.{counted, within}
 use Rattle.names.specs.Names.{flats}

@@ -1,11 +1,5 @@
 -- `candidates::lines::put_line` meets its contract: a name, a suffix behind it, what stands behind that, and a line feed.
-use mathlib.Core.Path.{refl, subst}
-use mathlib.Core.List.{[], _∷_}
-use Prim.Native.Nat.{ℕ, _+_, _≤_}
-use native.Mathlib.Omega.{arith}
-use lib.ListN.{length}
-use denote.Ref.{now}
-use borrow.Author.Needs.{needs}
+use Rattle.answer.proofs.Kit.{refl, subst, [], _∷_, ℕ, _+_, _≤_, arith, length, now, needs}
 use Rattle.answer.specs.Words.{low, packed, textOf}
 use Rattle.answer.specs.Written.{Writes}
 use Rattle.answer.proofs.Digits.{isShort, areBytes}

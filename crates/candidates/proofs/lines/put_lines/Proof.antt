@@ -1,14 +1,5 @@
 -- `candidates::lines::put_lines` meets its contract. The loop's invariant: the lines of the classes before `i` are written.
-use mathlib.Core.Path.{_≡_, ap, ap₂, _∙_}
-use mathlib.Core.Bool.{true}
-use mathlib.Core.List.{List, []}
-use Prim.Native.Nat.{ℕ, _+_, _-_, _*_, _<_, _≤_}
-use native.Mathlib.Omega.{arith}
-use lib.Dec.{T}
-use lib.ListN.{length, drop}
-use lib.Seq.{drop-length}
-use denote.Ref.{now}
-use borrow.Author.Needs.{needs}
+use Rattle.answer.proofs.Kit.{_≡_, ap, ap₂, _∙_, true, List, [], ℕ, _+_, _-_, _*_, _<_, _≤_, arith, T, length, drop, drop-length, now, needs}
 use borrow.Rule.Slice.PartMut.{putMid}
 use Rattle.intervals.specs.Sets.{has}
 use Rattle.answer.specs.Words.{digits, long, textOf}

@@ -1,14 +1,5 @@
 -- `chordlist::codes::read_codes` meets its contract. The loop's invariant: what has been read before the byte at `i`.
-use mathlib.Core.Path.{_≡_, refl, ap, sym, subst, _∙_}
-use mathlib.Core.Bool.{true}
-use mathlib.Core.Logic.{⊎-elim}
-use mathlib.Core.List.{List, [], _∷_}
-use Prim.Native.Nat.{ℕ, _-_, _<_, _≤_}
-use native.Mathlib.Omega.{arith}
-use lib.ListN.{length, getD, length-set}
-use denote.Ref.{now}
-use borrow.Author.Needs.{needs}
-use borrow.Author.Tests.{not-true, not-false}
+use Rattle.answer.proofs.Kit.{_≡_, refl, ap, sym, subst, _∙_, true, ⊎-elim, List, [], _∷_, ℕ, _-_, _<_, _≤_, arith, length, getD, length-set, now, needs, not-true, not-false}
 use Rattle.chordlist.specs.Codes.{holds, codesIn}
 use Rattle.chordlist.proofs.Reading.{isEnded, Reading, start, value-less, is-digit, has-place, digit, next, no-space, no-code, place, read, cut}
 use Rattle.chordlist.proofs.codes.read_codes.Statement.{statement}

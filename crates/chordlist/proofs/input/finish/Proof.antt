@@ -1,11 +1,5 @@
 -- `chordlist::input::finish` meets its contract: a last line of no bytes is none.
-use mathlib.Core.Path.{_≡_, refl}
-use mathlib.Core.List.{List, [], _∷_}
-use Prim.Native.Nat.{ℕ}
-use native.Mathlib.Omega.{arith}
-use lib.ListN.{length}
-use denote.Ref.{now}
-use borrow.Author.Needs.{needs}
+use Rattle.answer.proofs.Kit.{_≡_, refl, List, [], _∷_, ℕ, arith, length, now, needs}
 use Rattle.names.specs.Names.{flats}
 use Rattle.chordlist.specs.Replies.{lineText}
 use Rattle.chordlist.specs.private.Pieces.{saidAtEnd}

@@ -1,10 +1,5 @@
 -- `chordlist::input::take_in` meets its contract: by the byte, and by whether it has room.
-use mathlib.Core.Path.{sym}
-use native.Mathlib.Omega.{arith}
-use lib.ListN.{take}
-use lib.Seq.{length-take-le}
-use denote.Ref.{now}
-use borrow.Author.Needs.{needs}
+use Rattle.answer.proofs.Kit.{sym, arith, take, length-take-le, now, needs}
 use Rattle.names.specs.Names.{flats}
 use Rattle.chordlist.specs.private.Pieces.{Says}
 use Rattle.chordlist.proofs.Bytewise.{answered, silent, emptied, kept, full}

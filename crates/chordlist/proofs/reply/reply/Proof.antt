@@ -1,14 +1,5 @@
 -- `chordlist::reply::reply` meets its contract: by the line's length, and by what it holds.
-use mathlib.Core.Path.{_≡_, sym, subst}
-use mathlib.Core.Logic.{⊎-elim}
-use mathlib.Core.List.{List, [], _∷_}
-use Prim.Native.Nat.{ℕ, _<_, _≤_}
-use native.Mathlib.Omega.{arith}
-use lib.ListN.{length, take, length-set}
-use lib.Seq.{length-take-le}
-use denote.Ref.{now}
-use borrow.Author.Needs.{needs}
-use borrow.Author.Tests.{le-leb, lt-leb}
+use Rattle.answer.proofs.Kit.{_≡_, sym, subst, ⊎-elim, List, [], _∷_, ℕ, _<_, _≤_, arith, length, take, length-set, length-take-le, now, needs, le-leb, lt-leb}
 use Rattle.answer.specs.Words.{bytes}
 use Rattle.names.specs.Names.{flats}
 use Rattle.chordlist.specs.Codes.{bad, holds, codesIn}

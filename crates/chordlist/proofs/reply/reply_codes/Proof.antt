@@ -1,11 +1,5 @@
 -- `chordlist::reply::reply_codes` meets its contract: candidates have at most 840 bytes, and so there is room for them and the stop.
-use mathlib.Core.Path.{_≡_, sym, subst, _∙_}
-use mathlib.Core.List.{List, [], _∷_, _++_, append-assoc}
-use Prim.Native.Nat.{ℕ, _+_, _≤_}
-use native.Mathlib.Omega.{arith}
-use lib.ListN.{length, drop, set, length-set}
-use denote.Ref.{now}
-use borrow.Author.Needs.{needs}
+use Rattle.answer.proofs.Kit.{_≡_, sym, subst, _∙_, List, [], _∷_, _++_, append-assoc, ℕ, _+_, _≤_, arith, length, drop, set, length-set, now, needs}
 use Rattle.answer.specs.Words.{bytes}
 use Rattle.answer.specs.declared.output.Output.the-variants.{Written}
 use Rattle.answer.proofs.Rooms.{written}

@@ -1,5 +1,5 @@
 -- `descriptors::classes::at_once` meets its contract: what it computes is told at each set.
-use borrow.Author.Needs.{needs}
+use Rattle.answer.proofs.Kit.{needs}
 use Rattle.rules.proofs.Resolved.{once-told}
 use Rattle.descriptors.proofs.classes.at_once.Statement.{statement}
 use Rattle.descriptors.proofs.classes.at_once.Tie as tie

@@ -1,6 +1,5 @@
 -- `descriptors::classes::intervals` meets its contract: the steps together are told at each set.
-use native.Mathlib.Omega.{arith}
-use borrow.Author.Needs.{needs}
+use Rattle.answer.proofs.Kit.{arith, needs}
 use Rattle.rules.proofs.Resolved.{all-told}
 use Rattle.descriptors.proofs.classes.intervals.Statement.{statement}
 use Rattle.descriptors.proofs.classes.intervals.Tie as tie

@@ -1,5 +1,5 @@
 -- `descriptors::descriptor::adds` meets its contract: by whether the quality is diminished.
-use borrow.Author.Needs.{needs}
+use Rattle.answer.proofs.Kit.{needs}
 use Rattle.descriptors.proofs.descriptor.adds.Statement.{statement}
 use Rattle.descriptors.proofs.descriptor.adds.Tie as tie
 

@@ -1,10 +1,5 @@
 -- `descriptors::descriptor::describe` meets its contract: at a rooted set each step is what the rules say.
-use mathlib.Core.Path.{_≡_, ap, _∙_}
-use mathlib.Core.Bool.{true}
-use Prim.Native.Nat.{ℕ}
-use native.Mathlib.Nat.{mod-eq-of-lt}
-use native.Mathlib.Omega.{arith}
-use borrow.Author.Needs.{needs}
+use Rattle.answer.proofs.Kit.{_≡_, ap, _∙_, true, ℕ, mod-eq-of-lt, arith, needs}
 use Rattle.answer.proofs.Tests.{refused, admitted}
 use Rattle.intervals.specs.Sets.{isRooted}
 use Rattle.intervals.specs.Intervals.{setOf}

@@ -1,5 +1,5 @@
 -- `descriptors::descriptor::modifier` meets its contract: the tests that led to a return say which extension is the last that is stacked.
-use borrow.Author.Tests.{le-leb, lt-leb}
+use Rattle.answer.proofs.Kit.{le-leb, lt-leb}
 use Rattle.descriptors.proofs.descriptor.modifier.Statement.{statement}
 use Rattle.descriptors.proofs.descriptor.modifier.Tie as tie
 

@@ -1,5 +1,5 @@
 -- `descriptors::descriptor::shown_quality` meets its contract: a set with a third put in has a quality.
-use borrow.Author.Needs.{needs}
+use Rattle.answer.proofs.Kit.{needs}
 use Rattle.descriptors.proofs.Shown.{shown, refused}
 use Rattle.descriptors.proofs.descriptor.shown_quality.Statement.{statement}
 use Rattle.descriptors.proofs.descriptor.shown_quality.Tie as tie

@@ -1,5 +1,5 @@
 -- `descriptors::descriptor::split_extensions` meets its contract: each step is told by what it calls.
-use borrow.Author.Needs.{needs}
+use Rattle.answer.proofs.Kit.{needs}
 use Rattle.descriptors.proofs.Described.{split}
 use Rattle.descriptors.proofs.descriptor.split_extensions.Statement.{statement}
 use Rattle.descriptors.proofs.descriptor.split_extensions.Tie as tie

@@ -1,8 +1,5 @@
 -- `descriptors::descriptor::with_third` meets its contract: the test says whether class 4 is put in.
-use mathlib.Core.Path.{_≡_, ap, _∙_}
-use Prim.Native.Nat.{ℕ, _<_}
-use native.Mathlib.Omega.{arith}
-use lib.Bits.{or-lt}
+use Rattle.answer.proofs.Kit.{_≡_, ap, _∙_, ℕ, _<_, arith, or-lt}
 use Rattle.answer.proofs.Chosen.{yes, no-then}
 use Rattle.intervals.proofs.Rooted.{rooted-small}
 use Rattle.rules.specs.Parts.{withThird}

@@ -1,5 +1,5 @@
 -- `descriptors::kinds::kind_of` meets its contract: each arm has the row of its quality.
-use borrow.Author.Needs.{needs}
+use Rattle.answer.proofs.Kit.{needs}
 use Rattle.answer.specs.Words.{bytes, low, packed}
 use Rattle.intervals.specs.Sets.{isIn}
 use Rattle.descriptors.proofs.kinds.kind_of.Statement.{statement}

@@ -1,7 +1,6 @@
 -- `hemotusap::host::moved` meets its contract: by the answer's case.
-use mathlib.Core.Path.{ap, sym, _∙_}
+use Rattle.answer.proofs.Kit.{ap, sym, _∙_, needs}
 use mir.Facts.{toZ-ofZ}
-use borrow.Author.Needs.{needs}
 use Rattle.hemotusap.specs.Host.{noteAnswerNumber}
 use Rattle.hemotusap.proofs.host.moved.Statement.{statement}
 use Rattle.hemotusap.proofs.host.moved.Tie as tie

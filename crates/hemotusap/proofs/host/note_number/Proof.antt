@@ -1,12 +1,8 @@
 -- `hemotusap::host::note_number` meets its contract.
-use mathlib.Core.Path.{_≡_, ap, ap₂, sym, _∙_}
-use Prim.Native.Nat.{ℕ, _+_, _*_, _<_, _^_}
-use native.Mathlib.Omega.{arith}
-use lib.IntN.{ℤ, pos, _+ℤ_, +ℤ-idr}
+use Rattle.answer.proofs.Kit.{_≡_, ap, ap₂, sym, _∙_, ℕ, _+_, _*_, _<_, _^_, arith, ℤ, pos, _+ℤ_, +ℤ-idr, needs}
 use mir.Syntax.{w32, w64}
 use mir.Val.{SFits, toZ, ofZ}
 use mir.Facts.{toZ-ofZ}
-use borrow.Author.Needs.{needs}
 use Rattle.notes.specs.Notes.{countOf}
 use Rattle.notes.specs.declared.note.Accidental.{Accidental}
 use Rattle.hemotusap.proofs.Wide.{held-pos, fits-less, fits-sum}

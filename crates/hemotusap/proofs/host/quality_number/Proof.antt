@@ -1,8 +1,6 @@
 -- `hemotusap::host::quality_number` meets its contract: by the answer's case.
-use mathlib.Core.Path.{ap, sym, _∙_}
-use lib.IntN.{pos}
+use Rattle.answer.proofs.Kit.{ap, sym, _∙_, pos, needs}
 use mir.Facts.{toZ-ofZ}
-use borrow.Author.Needs.{needs}
 use Rattle.hemotusap.specs.Host.{qualityNumber}
 use Rattle.hemotusap.proofs.Wide.{held-pos}
 use Rattle.hemotusap.proofs.host.quality_number.Statement.{statement}

@@ -1,12 +1,8 @@
 -- `hemotusap::host::refused` meets its contract.
-use mathlib.Core.Path.{_≡_, ap, _∙_}
-use Prim.Native.Nat.{ℕ, _<_, _^_}
-use native.Mathlib.Omega.{arith}
-use lib.IntN.{ℤ, pos, negℤ, _-ℤ_, +ℤ-idl}
+use Rattle.answer.proofs.Kit.{_≡_, ap, _∙_, ℕ, _<_, _^_, arith, ℤ, pos, negℤ, _-ℤ_, +ℤ-idl, needs}
 use mir.Syntax.{w64}
 use mir.Val.{SFits, toZ}
 use mir.Facts.{toZ-ofZ}
-use borrow.Author.Needs.{needs}
 use Rattle.hemotusap.proofs.Wide.{held-pos, fits-neg}
 use Rattle.hemotusap.proofs.host.refused.Statement.{statement}
 use Rattle.hemotusap.proofs.host.refused.Tie as tie

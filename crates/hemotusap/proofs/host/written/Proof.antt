@@ -1,7 +1,6 @@
 -- `hemotusap::host::written` meets its contract: by the answer's case.
-use mathlib.Core.Path.{ap, sym, subst, _∙_}
+use Rattle.answer.proofs.Kit.{ap, sym, subst, _∙_, needs}
 use mir.Facts.{toZ-ofZ}
-use borrow.Author.Needs.{needs}
 use Rattle.hemotusap.specs.Host.{Fits, outputNumber}
 use Rattle.hemotusap.proofs.Wide.{held-pos, fits-pos}
 use Rattle.hemotusap.proofs.host.written.Statement.{statement}

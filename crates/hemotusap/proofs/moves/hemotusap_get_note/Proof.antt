@@ -1,7 +1,6 @@
 -- `hemotusap::moves::hemotusap_get_note` meets its contract.
-use mathlib.Core.Path.{ap, _∙_}
+use Rattle.answer.proofs.Kit.{ap, _∙_, needs}
 use mir.Facts.{toZ-ofZ}
-use borrow.Author.Needs.{needs}
 use Rattle.notes.specs.Notes.{noteOf, getNoteAnswer}
 use Rattle.notes.specs.declared.note.Note.{Note}
 use Rattle.hemotusap.specs.Host.{noteAnswerNumber}

@@ -1,7 +1,6 @@
 -- `hemotusap::moves::hemotusap_transpose` meets its contract.
-use mathlib.Core.Path.{ap, ap₂, _∙_}
+use Rattle.answer.proofs.Kit.{ap, ap₂, _∙_, needs}
 use mir.Facts.{toZ-ofZ}
-use borrow.Author.Needs.{needs}
 use Rattle.notes.specs.Notes.{noteOf, transposeAnswer}
 use Rattle.notes.specs.declared.note.Note.{Note}
 use Rattle.hemotusap.specs.Host.{noteAnswerNumber}

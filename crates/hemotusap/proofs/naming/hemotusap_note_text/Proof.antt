@@ -1,9 +1,6 @@
 -- `hemotusap::naming::hemotusap_note_text` meets its contract.
-use mathlib.Core.Path.{_≡_, ap, _∙_}
-use native.Mathlib.Omega.{arith}
-use denote.Ref.{now}
+use Rattle.answer.proofs.Kit.{_≡_, ap, _∙_, arith, now, needs}
 use mir.Facts.{toZ-ofZ}
-use borrow.Author.Needs.{needs}
 use Rattle.notes.specs.Notes.{noteOf}
 use Rattle.hemotusap.specs.Host.{outputNumber}
 use Rattle.hemotusap.proofs.Wide.{output-fits}

@@ -1,7 +1,6 @@
 -- `hemotusap::naming::hemotusap_quality` meets its contract.
-use mathlib.Core.Path.{ap, _∙_}
+use Rattle.answer.proofs.Kit.{ap, _∙_, needs}
 use mir.Facts.{toZ-ofZ}
-use borrow.Author.Needs.{needs}
 use Rattle.hemotusap.specs.Host.{qualityNumber}
 use Rattle.hemotusap.proofs.naming.hemotusap_quality.Statement.{statement}
 use Rattle.hemotusap.proofs.naming.hemotusap_quality.Tie as tie

@@ -1,8 +1,5 @@
 -- `hemotusap::symbols::hemotusap_candidate_count` meets its contract.
-use mathlib.Core.Path.{ap, _∙_}
-use native.Mathlib.Omega.{arith}
-use lib.IntN.{pos}
-use borrow.Author.Needs.{needs}
+use Rattle.answer.proofs.Kit.{ap, _∙_, arith, pos, needs}
 use Rattle.hemotusap.proofs.Wide.{held-pos}
 use Rattle.hemotusap.proofs.symbols.hemotusap_candidate_count.Statement.{statement}
 use Rattle.hemotusap.proofs.symbols.hemotusap_candidate_count.Tie as tie

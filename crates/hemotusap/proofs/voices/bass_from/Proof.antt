@@ -1,5 +1,5 @@
 -- `hemotusap::voices::bass_from` meets its contract: by whether it is 255.
-use borrow.Author.Tests.{eq-eqb, ne-eqb}
+use Rattle.answer.proofs.Kit.{eq-eqb, ne-eqb}
 use Rattle.hemotusap.proofs.voices.bass_from.Statement.{statement}
 use Rattle.hemotusap.proofs.voices.bass_from.Tie as tie
 

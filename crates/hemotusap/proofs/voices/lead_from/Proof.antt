@@ -1,6 +1,5 @@
 -- `hemotusap::voices::lead_from` meets its contract: by whether it is above 255.
-use borrow.Author.Needs.{needs}
-use borrow.Author.Tests.{lt-leb, le-leb}
+use Rattle.answer.proofs.Kit.{needs, lt-leb, le-leb}
 use Rattle.hemotusap.proofs.voices.lead_from.Statement.{statement}
 use Rattle.hemotusap.proofs.voices.lead_from.Tie as tie
 

@@ -1,6 +1,5 @@
 -- `inference::normalize::put_described` meets its contract: the heading, and behind it the parentheses.
-use native.Mathlib.Omega.{arith}
-use borrow.Author.Needs.{needs}
+use Rattle.answer.proofs.Kit.{arith, needs}
 use Rattle.answer.proofs.Writing.{also}
 use Rattle.inference.proofs.normalize.put_described.Statement.{statement}
 use Rattle.inference.proofs.normalize.put_described.Tie as tie

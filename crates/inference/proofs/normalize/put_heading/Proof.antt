@@ -1,12 +1,5 @@
 -- `inference::normalize::put_heading` meets its contract: four words in a row.
-use mathlib.Core.Path.{ap, _∙_}
-use mathlib.Core.Bool.{cond, not}
-use mathlib.Core.List.{[]}
-use native.Mathlib.Omega.{arith}
-use lib.Dec.{eqb}
-use lib.ListN.{length-append}
-use denote.Ref.{now}
-use borrow.Author.Needs.{needs}
+use Rattle.answer.proofs.Kit.{ap, _∙_, cond, not, [], arith, eqb, length-append, now, needs}
 use Rattle.answer.specs.Words.{bytes}
 use Rattle.answer.proofs.Writing.{no-puts, then-put}
 use Rattle.rules.specs.Heading.{wording, modified}

@@ -1,12 +1,5 @@
 -- `inference::normalize::put_parentheses` meets its contract: four lists of parts in a row, and what closes them.
-use mathlib.Core.Path.{_≡_, sym, ap, ap₂, subst, _∙_}
-use mathlib.Core.List.{List, [], _++_, append-nil, append-assoc}
-use Prim.Native.Nat.{ℕ, _+_, _≤_}
-use native.Mathlib.Nat.{le-refl}
-use lib.Bits.{bitXor, xor-lt}
-use lib.ListN.{length}
-use denote.Ref.{now}
-use borrow.Author.Needs.{needs}
+use Rattle.answer.proofs.Kit.{_≡_, sym, ap, ap₂, subst, _∙_, List, [], _++_, append-nil, append-assoc, ℕ, _+_, _≤_, le-refl, bitXor, xor-lt, length, now, needs}
 use Rattle.answer.specs.Words.{bytes}
 use Rattle.answer.specs.Written.{Writes}
 use Rattle.rules.specs.Classes.{intervalsIn}

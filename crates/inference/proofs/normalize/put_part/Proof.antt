@@ -1,14 +1,8 @@
 -- `inference::normalize::put_part` meets its contract: three words in a row.
-use mathlib.Core.Path.{ap, _∙_}
-use mathlib.Core.Bool.{cond}
-use native.Mathlib.Omega.{arith}
-use lib.Dec.{eqb}
-use lib.ListN.{length-append}
-use denote.Ref.{now}
-use borrow.Author.Needs.{needs}
+use Rattle.answer.proofs.Kit.{ap, _∙_, cond, arith, eqb, length-append, now, needs}
 use Rattle.answer.specs.Words.{bytes, packed}
 use Rattle.intervals.specs.Intervals.{numbered}
-use Rattle.intervals.specs.declared.interval.Numbered.{Numbered}
+use Rattle.intervals.specs.declared.interval.MaybeInterval.{MaybeInterval}
 use Rattle.rules.specs.Heading.{orElse}
 use Rattle.inference.specs.private.Prefixes.{prefixText}
 use Rattle.answer.proofs.Writing.{no-puts, then-put}
@@ -33,7 +27,7 @@ returns c =
     (second .put2 .ensures) (second .put2 .kept .0) in
     let named =
     then-put worded (orElse "" (numbered (a .number))) (or-nothing-short (numbered (a .number))) _ _ _
-    (third .before .notation .ensures ∙ ap (λ (m : Numbered). packed (orElse "" m)) (third .before .before .from-number .ensures))
+    (third .before .notation .ensures ∙ ap (λ (m : MaybeInterval). packed (orElse "" m)) (third .before .before .from-number .ensures))
     (simp length-append (omega arith)) (third .put3 .ensures) (third .put3 .kept .0) in
     named .wrote
 

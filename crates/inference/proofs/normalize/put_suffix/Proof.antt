@@ -1,12 +1,6 @@
 -- `inference::normalize::put_suffix` meets its contract: where there is room, a rooted set has a descriptor, and what is written off it is the
 -- suffix.
-use mathlib.Core.Path.{_≡_, sym, ap, ap₂, subst, _∙_}
-use mathlib.Core.Bool.{true}
-use mathlib.Core.List.{List, _++_}
-use Prim.Native.Nat.{ℕ, _+_, _≤_}
-use native.Mathlib.Omega.{arith}
-use lib.ListN.{length, length-append}
-use borrow.Author.Needs.{needs}
+use Rattle.answer.proofs.Kit.{_≡_, sym, ap, ap₂, subst, _∙_, true, List, _++_, ℕ, _+_, _≤_, arith, length, length-append, needs}
 use Rattle.answer.proofs.Writing.{same-text}
 use Rattle.intervals.specs.Sets.{isRooted}
 use Rattle.rules.specs.Suffix.{parenthesized, suffixOf}

@@ -1,11 +1,5 @@
 -- `inference::normalize::suffix` meets its contract: the tests say what the call has to give, and `give` gives it.
-use mathlib.Core.Path.{_≡_, sym, ap, subst, _∙_}
-use mathlib.Core.Bool.{true}
-use Prim.Native.Nat.{ℕ}
-use native.Mathlib.Omega.{arith}
-use lib.ListN.{replicate}
-use denote.Ref.{now}
-use borrow.Author.Needs.{needs}
+use Rattle.answer.proofs.Kit.{_≡_, sym, ap, subst, _∙_, true, ℕ, arith, replicate, now, needs}
 use Rattle.answer.specs.Written.{Writes}
 use Rattle.answer.specs.Replies.{Reply, text, Answered}
 use Rattle.answer.proofs.Rooms.{refused-by}

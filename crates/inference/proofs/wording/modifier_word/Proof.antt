@@ -1,8 +1,5 @@
 -- `inference::wording::modifier_word` meets its contract: by whether there is a modifier.
-use mathlib.Core.Path.{ap, _∙_}
-use mathlib.Core.Bool.{cond}
-use Prim.Native.Nat.{ℕ}
-use borrow.Author.Needs.{needs}
+use Rattle.answer.proofs.Kit.{ap, _∙_, cond, ℕ, needs}
 use Rattle.inference.proofs.wording.modifier_word.Statement.{statement}
 use Rattle.inference.proofs.wording.modifier_word.Tie as tie
 

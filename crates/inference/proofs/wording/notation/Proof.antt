@@ -1,5 +1,5 @@
 -- `inference::wording::notation` meets its contract: an interval's word, or the one for none.
-use borrow.Author.Needs.{needs}
+use Rattle.answer.proofs.Kit.{needs}
 use Rattle.answer.specs.Words.{bytes, low, packed}
 use Rattle.inference.proofs.wording.notation.Statement.{statement}
 use Rattle.inference.proofs.wording.notation.Tie as tie

@@ -1,5 +1,5 @@
 -- `inference::wording::prefix_word` meets its contract: each word is its text's.
-use borrow.Author.Needs.{needs}
+use Rattle.answer.proofs.Kit.{needs}
 use Rattle.answer.specs.Words.{bytes, low, packed}
 use Rattle.inference.proofs.wording.prefix_word.Statement.{statement}
 use Rattle.inference.proofs.wording.prefix_word.Tie as tie

@@ -1,8 +1,5 @@
 -- `keys::bits::take_out` meets its contract: a number in the set has a bit that the set is no less than.
-use mathlib.Core.Path.{_≡_, sym, _∙_}
-use mathlib.Core.Bool.{true}
-use Prim.Native.Nat.{ℕ, _^_, _<_}
-use borrow.Author.Needs.{needs}
+use Rattle.answer.proofs.Kit.{_≡_, sym, _∙_, true, ℕ, _^_, _<_, needs}
 use Rattle.intervals.specs.Sets.{has}
 use Rattle.keys.specs.Choice.{without}
 use Rattle.keys.proofs.Digit.{within, bit-held, bit-least}

@@ -1,6 +1,5 @@
 -- `keys::nearest::distance` meets its contract: by which is the greater.
-use borrow.Author.Needs.{needs}
-use borrow.Author.Tests.{lt-ltb, le-ltb}
+use Rattle.answer.proofs.Kit.{needs, lt-ltb, le-ltb}
 use Rattle.keys.proofs.nearest.distance.Statement.{statement}
 use Rattle.keys.proofs.nearest.distance.Tie as tie
 

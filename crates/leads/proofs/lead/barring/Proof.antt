@@ -1,11 +1,6 @@
 -- `leads::lead::barring` meets its contract: by whether the two rub, and whether the interval was free.
-use mathlib.Core.Path.{_≡_, sym, ap, _∙_}
-use mathlib.Core.Bool.{Bool, true, false, cond, _&&_}
-use Prim.Native.Nat.{ℕ, _-_, _*_, _%_, _^_, _≤_, _<_}
-use native.Mathlib.Nat.{mod-eq-of-lt}
-use native.Mathlib.Omega.{arith}
+use Rattle.answer.proofs.Kit.{_≡_, sym, ap, _∙_, Bool, true, false, cond, _&&_, ℕ, _-_, _*_, _%_, _^_, _≤_, _<_, mod-eq-of-lt, arith, needs}
 use mir.Val.{boolByte}
-use borrow.Author.Needs.{needs}
 use Rattle.intervals.specs.Sets.{has}
 use Rattle.keys.specs.Choice.{without}
 use Rattle.leads.specs.Lead.{rubs}

@@ -1,10 +1,5 @@
 -- `leads::lead::last_owner` meets its contract. The loop's invariant: none of the tones from the place on owns the key.
-use mathlib.Core.Path.{_≡_, sym, ap, _∙_}
-use mathlib.Core.Bool.{false}
-use Prim.Native.Nat.{ℕ, _+_, _-_, _≤_}
-use native.Mathlib.Omega.{arith}
-use lib.Seq.{slice}
-use borrow.Author.Needs.{needs}
+use Rattle.answer.proofs.Kit.{_≡_, sym, ap, _∙_, false, ℕ, _+_, _-_, _≤_, arith, slice, needs}
 use Rattle.pool.specs.declared.pool.Tone.{Tone}
 use Rattle.pool.specs.private.Places.{tonesIn}
 use Rattle.pool.specs.Pool.{anyTone}

@@ -1,17 +1,7 @@
 -- `leads::lead::lead_key` meets its contract. The loop's invariant: the best of what was found and of what the tones left offer is the
 -- best of all.
-use mathlib.Core.Path.{_≡_, refl, sym, ap, _∙_}
-use mathlib.Core.Bool.{Bool, true, false, cond, _&&_, or-false}
-use mathlib.Core.List.{List, _∷_, map}
-use mathlib.Core.Logic.{⊎-elim}
+use Rattle.answer.proofs.Kit.{_≡_, refl, sym, ap, _∙_, Bool, true, false, cond, _&&_, or-false, List, _∷_, map, ⊎-elim, ℕ, _+_, _-_, _%_, _^_, _≤_, _<_, zero-div, arith, eqb, ltb, length, getD, slice, needs}
 use mathlib.Core.Option.{Option, none, some, Option·elim}
-use Prim.Native.Nat.{ℕ, _+_, _-_, _%_, _^_, _≤_, _<_}
-use native.Mathlib.Nat.{zero-div}
-use native.Mathlib.Omega.{arith}
-use lib.Dec.{eqb, ltb}
-use lib.ListN.{length, getD}
-use lib.Seq.{slice}
-use borrow.Author.Needs.{needs}
 use Rattle.intervals.specs.Sets.{has}
 use Rattle.pool.specs.declared.pool.Tone.{Tone}
 use Rattle.keys.specs.declared.nearest.Offer.{Offer}

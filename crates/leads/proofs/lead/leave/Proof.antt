@@ -1,6 +1,5 @@
 -- `leads::lead::leave` meets its contract: the tone at the place of the last that owns the lead leaves.
-use mathlib.Core.Path.{ap, _∙_}
-use mathlib.Core.List.{List}
+use Rattle.answer.proofs.Kit.{ap, _∙_, List}
 use Rattle.pool.specs.declared.pool.Tone.{Tone}
 use Rattle.pool.specs.private.Places.{laidOver}
 use Rattle.leads.proofs.lead.leave.Statement.{statement}

@@ -1,8 +1,5 @@
 -- `leads::lead::owns` meets its contract: by how far the key is above the tone's first.
-use mathlib.Core.Path.{sym}
-use Prim.Native.Nat.{_+_}
-use native.Mathlib.Omega.{arith}
-use borrow.Author.Needs.{needs}
+use Rattle.answer.proofs.Kit.{sym, _+_, arith, needs}
 use Rattle.keys.specs.Choice.{keysOf}
 use Rattle.leads.specs.Lead.{owns}
 use Rattle.leads.proofs.Owned.{none-below, by-twelves}

@@ -1,11 +1,6 @@
 -- `leads::lead::remove` meets its contract. The loop's invariant: those put in front, with those behind the next, are the pool without
 -- the tone, and from the place on the run is as it was.
-use mathlib.Core.Path.{_≡_, refl, sym, ap, ap₂, _∙_}
-use mathlib.Core.List.{List, _∷_, _++_, append-nil}
-use Prim.Native.Nat.{ℕ, _+_, _-_, _≤_, _<_}
-use native.Mathlib.Omega.{arith}
-use lib.ListN.{length, take, drop, getD, set, length-set, take-append-drop}
-use lib.Seq.{slice, length-take-le, drop-set-lt, drop-drop}
+use Rattle.answer.proofs.Kit.{_≡_, refl, sym, ap, ap₂, _∙_, List, _∷_, _++_, append-nil, ℕ, _+_, _-_, _≤_, _<_, arith, length, take, drop, getD, set, length-set, take-append-drop, slice, length-take-le, drop-set-lt, drop-drop}
 use Rattle.pool.specs.declared.pool.Tone.{Tone}
 use Rattle.pool.specs.declared.pool.Pool.{Pool}
 use Rattle.pool.specs.private.Places.{laidOver, tonesIn}

@@ -1,5 +1,5 @@
 -- `leads::lead::rubs` meets its contract: by the distance of the bases.
-use borrow.Author.Needs.{needs}
+use Rattle.answer.proofs.Kit.{needs}
 use Rattle.leads.proofs.lead.rubs.Statement.{statement}
 use Rattle.leads.proofs.lead.rubs.Tie as tie
 

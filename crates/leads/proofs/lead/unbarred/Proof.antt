@@ -1,12 +1,6 @@
 -- `leads::lead::unbarred` meets its contract. The loop's invariant: what the tones that are left bar, behind the one before them,
 -- leaves the set that the whole pool leaves.
-use mathlib.Core.Path.{_≡_, sym, ap, _∙_}
-use mathlib.Core.List.{List}
-use Prim.Native.Nat.{ℕ, _+_, _-_, _≤_}
-use native.Mathlib.Omega.{arith}
-use lib.ListN.{take, getD}
-use lib.Seq.{slice}
-use borrow.Author.Needs.{needs}
+use Rattle.answer.proofs.Kit.{_≡_, sym, ap, _∙_, List, ℕ, _+_, _-_, _≤_, arith, take, getD, slice, needs}
 use Rattle.pool.specs.declared.pool.Tone.{Tone}
 use Rattle.pool.specs.private.Places.{tonesIn}
 use Rattle.leads.specs.Lead.{barring, unbarred}

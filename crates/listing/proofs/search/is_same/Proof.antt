@@ -1,11 +1,5 @@
 -- `listing::search::is_same` meets its contract. The loop's invariant: the texts are the same if they are from `i` on.
-use mathlib.Core.Path.{_≡_, refl, sym, ap, _∙_}
-use mathlib.Core.Bool.{Bool, _&&_}
-use Prim.Native.Nat.{ℕ, _+_, _-_, _≤_}
-use native.Mathlib.Omega.{arith}
-use lib.ListN.{length, drop, getD}
-use denote.Ref.{now}
-use borrow.Author.Tests.{eq-eqb}
+use Rattle.answer.proofs.Kit.{_≡_, refl, sym, ap, _∙_, Bool, _&&_, ℕ, _+_, _-_, _≤_, arith, length, drop, getD, now, eq-eqb}
 use Rattle.answer.specs.Words.{same}
 use Rattle.listing.proofs.Compared.{other-length, other-byte, compared, all-compared}
 use Rattle.listing.proofs.search.is_same.Statement.{statement}

@@ -1,8 +1,5 @@
 -- `listing::search::is_suffix` meets its contract: the suffix of a rooted set is put at the front of the buffer.
-use mathlib.Core.Path.{ap, _∙_}
-use native.Mathlib.Omega.{arith}
-use lib.ListN.{replicate}
-use borrow.Author.Needs.{needs}
+use Rattle.answer.proofs.Kit.{ap, _∙_, arith, replicate, needs}
 use Rattle.answer.specs.Words.{same}
 use Rattle.answer.specs.Written.{Writes}
 use Rattle.answer.proofs.Writing.{counted, within}

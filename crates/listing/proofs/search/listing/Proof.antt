@@ -1,9 +1,5 @@
 -- `listing::search::listing` meets its contract: what was found stands at the front of the buffer, and that is given.
-use mathlib.Core.Path.{ap, sym, _∙_}
-use mathlib.Core.List.{List, []}
-use native.Mathlib.Omega.{arith}
-use denote.Ref.{now}
-use borrow.Author.Needs.{needs}
+use Rattle.answer.proofs.Kit.{ap, sym, _∙_, List, [], arith, now, needs}
 use Rattle.answer.specs.Replies.{text, outputOf, roomAfter}
 use Rattle.answer.proofs.Rooms.{written}
 use Rattle.answer.proofs.Writing.{counted, within}

@@ -1,8 +1,5 @@
 -- `listing::search::put_set` meets its contract.
-use native.Mathlib.Omega.{arith}
-use lib.ListN.{length-set}
-use denote.Ref.{now}
-use borrow.Author.Needs.{needs}
+use Rattle.answer.proofs.Kit.{arith, length-set, now, needs}
 use Rattle.listing.proofs.Found.{puts-set}
 use Rattle.listing.proofs.search.put_set.Statement.{statement}
 use Rattle.listing.proofs.search.put_set.Tie as tie

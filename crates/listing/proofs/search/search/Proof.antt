@@ -1,10 +1,5 @@
 -- `listing::search::search` meets its contract. The loop's invariant: of the listing, what the sets from the one at `i` on give is left.
-use mathlib.Core.Path.{_≡_, ap, sym, subst, subst₂, _∙_}
-use mathlib.Core.List.{List}
-use mathlib.Core.Logic.{⊎-elim}
-use Prim.Native.Nat.{ℕ, _+_, _-_, _≤_}
-use native.Mathlib.Omega.{arith}
-use denote.Ref.{now}
+use Rattle.answer.proofs.Kit.{_≡_, ap, sym, subst, subst₂, _∙_, List, ⊎-elim, ℕ, _+_, _-_, _≤_, arith, now}
 use Rattle.answer.proofs.Writing.{SoFar, so-far-none, so-far-next, so-far-all}
 use Rattle.intervals.proofs.Rooted.{is-rooted}
 use Rattle.listing.specs.Listing.{matching, setsOf, inBytes, listingOf}

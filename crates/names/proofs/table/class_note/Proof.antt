@@ -1,9 +1,5 @@
 -- `names::table::class_note` meets its contract: the row's note, and past the last class none.
-use mathlib.Core.Path.{sym}
-use mathlib.Core.List.{map}
-use native.Mathlib.Omega.{arith}
-use lib.ListN.{List·getD-eq-default}
-use borrow.Author.Needs.{needs}
+use Rattle.answer.proofs.Kit.{sym, map, arith, List·getD-eq-default, needs}
 use Rattle.answer.specs.declared.refusal.Refusal.the-variants.{BadClass}
 use Rattle.notes.specs.declared.note.NoteAnswer.the-variants.{Is, Refused}
 use Rattle.names.specs.Names.{flats}

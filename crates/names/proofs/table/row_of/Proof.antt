@@ -1,9 +1,5 @@
 -- `names::table::row_of` meets its contract: each arm is the row at its number, and the last is past them all.
-use mathlib.Core.Path.{_≡_, refl, sym, ap}
-use mathlib.Core.List.{[], map}
-use Prim.Native.Nat.{ℕ, _<_}
-use native.Mathlib.Omega.{arith}
-use lib.ListN.{List·getD-eq-default}
+use Rattle.answer.proofs.Kit.{_≡_, refl, sym, ap, [], map, ℕ, _<_, arith, List·getD-eq-default}
 use Rattle.answer.specs.Words.{bytes, low, packed}
 use Rattle.answer.proofs.Arms.{Nones, nones}
 use Rattle.notes.specs.NoteText.{letterName, signs, noteName}

@@ -1,11 +1,8 @@
 -- `notes::note::at_height` meets its contract: six is no accidental, and any other height has its count.
-use mathlib.Core.Path.{_≡_, ap, _∙_}
-use Prim.Native.Nat.{ℕ, _<_}
-use lib.IntN.{ℤ, pos, _-ℤ_}
+use Rattle.answer.proofs.Kit.{_≡_, ap, _∙_, ℕ, _<_, ℤ, pos, _-ℤ_, needs}
 use mir.Syntax.{w32}
 use mir.Val.{SFits, toZ, ofZ}
 use mir.Facts.{toZ-ofZ}
-use borrow.Author.Needs.{needs}
 use Rattle.notes.specs.Notes.{accidentalOf}
 use Rattle.notes.specs.declared.note.Accidental.{Accidental}
 use Rattle.notes.specs.declared.note.Accidental.the-variants.{Count}

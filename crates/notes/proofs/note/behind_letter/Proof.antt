@@ -1,5 +1,5 @@
 -- `notes::note::behind_letter` meets its contract: each arm has the signs of its height.
-use lib.Dec.{lit<}
+use Rattle.answer.proofs.Kit.{lit<}
 use Rattle.answer.specs.Words.{bytes, low, packed}
 use Rattle.answer.proofs.Arms.{nones}
 use Rattle.notes.specs.NoteText.{signs}

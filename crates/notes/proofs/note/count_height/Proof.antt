@@ -1,10 +1,5 @@
 -- `notes::note::count_height` meets its contract. A signed number is held as bits, and what is read back is the number, since it fits.
-use mathlib.Core.Path.{_≡_, ap, sym, _∙_}
-use mathlib.Core.Bool.{false}
-use native.Mathlib.Omega.{arith}
-use lib.Dec.{T}
-use lib.IntN.{ℤ, pos, negℤ, natAbs, _+ℤ_}
-use lib.Signed.{ltZ, nonNeg}
+use Rattle.answer.proofs.Kit.{_≡_, ap, sym, _∙_, false, arith, T, ℤ, pos, negℤ, natAbs, _+ℤ_, ltZ, nonNeg}
 use mir.Syntax.{w32}
 use mir.Val.{Fits, SFits, toZ, ofZ}
 use mir.Facts.{toZ-ofZ}

@@ -1,7 +1,6 @@
 -- `notes::note::height` meets its contract: by the accidental's case.
-use mathlib.Core.Path.{ap, sym, _∙_}
+use Rattle.answer.proofs.Kit.{ap, sym, _∙_, needs}
 use mir.Facts.{toZ-ofZ}
-use borrow.Author.Needs.{needs}
 use Rattle.notes.specs.Notes.{countOf}
 use Rattle.notes.specs.private.Heights.{heightOf}
 use Rattle.notes.specs.declared.note.Accidental.{Accidental}

@@ -1,9 +1,5 @@
 -- `notes::note::is_note` meets its contract: a count is a number that has a height.
-use mathlib.Core.Path.{ap, ap₂, _∙_}
-use mathlib.Core.Bool.{_&&_}
-use Prim.Native.Nat.{ℕ}
-use lib.Dec.{leb·suc-suc, ltb}
-use borrow.Author.Needs.{needs}
+use Rattle.answer.proofs.Kit.{ap, ap₂, _∙_, _&&_, ℕ, leb·suc-suc, ltb, needs}
 use Rattle.notes.proofs.Moves.{in-height}
 use Rattle.notes.proofs.note.is_note.Statement.{statement}
 use Rattle.notes.proofs.note.is_note.Tie as tie

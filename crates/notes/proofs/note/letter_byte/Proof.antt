@@ -1,8 +1,5 @@
 -- `notes::note::letter_byte` meets its contract: a test of the seven letters.
-use mathlib.Core.Bool.{Bool}
-use Prim.Native.Nat.{ℕ, _+_, _%_}
-use lib.Dec.{eqb, eqb→eq}
-use borrow.Author.Needs.{needs}
+use Rattle.answer.proofs.Kit.{Bool, ℕ, _+_, _%_, eqb, eqb→eq, needs}
 use Rattle.answer.specs.Words.{bytes}
 use Rattle.answer.proofs.Tests.{all, at}
 use Rattle.notes.specs.NoteText.{letterName}

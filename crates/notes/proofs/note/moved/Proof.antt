@@ -1,8 +1,5 @@
 -- `notes::note::moved` meets its contract.
-use mathlib.Core.Path.{ap, _∙_}
-use Prim.Native.Nat.{ℕ, _+_, _-_, _%_}
-use native.Mathlib.Omega.{arith}
-use borrow.Author.Needs.{needs}
+use Rattle.answer.proofs.Kit.{ap, _∙_, ℕ, _+_, _-_, _%_, arith, needs}
 use Rattle.notes.specs.Notes.{letterAt, spelled, getNote}
 use Rattle.notes.proofs.Moves.{letter-less}
 use Rattle.notes.proofs.note.moved.Statement.{statement}

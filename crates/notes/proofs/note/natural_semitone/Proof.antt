@@ -1,7 +1,5 @@
 -- `notes::note::natural_semitone` meets its contract: each arm has its letter's semitone, and the last is the letter that is left.
-use mathlib.Core.Path.{_≡_}
-use native.Mathlib.Omega.{arith}
-use borrow.Author.Needs.{needs}
+use Rattle.answer.proofs.Kit.{_≡_, arith, needs}
 use Rattle.notes.proofs.note.natural_semitone.Statement.{statement}
 use Rattle.notes.proofs.note.natural_semitone.Tie as tie
 

@@ -1,8 +1,5 @@
 -- `notes::note::pitch` meets its contract.
-use mathlib.Core.Path.{ap₂, _∙_}
-use Prim.Native.Nat.{ℕ, _+_, _%_}
-use native.Mathlib.Omega.{arith}
-use borrow.Author.Needs.{needs}
+use Rattle.answer.proofs.Kit.{ap₂, _∙_, ℕ, _+_, _%_, arith, needs}
 use Rattle.notes.proofs.Moves.{letter-less, height-is, sounds}
 use Rattle.notes.proofs.note.pitch.Statement.{statement}
 use Rattle.notes.proofs.note.pitch.Tie as tie

@@ -1,10 +1,5 @@
 -- `notes::note::spell` meets its contract: the tests say which height the difference has.
-use mathlib.Core.Path.{_≡_, ap, sym, _∙_}
-use Prim.Native.Nat.{ℕ, _+_, _-_, _<_, _≤_}
-use native.Mathlib.Omega.{arith}
-use lib.IntN.{pos, _-ℤ_}
-use borrow.Author.Needs.{needs}
-use borrow.Author.Tests.{lt-ltb, le-ltb}
+use Rattle.answer.proofs.Kit.{_≡_, ap, sym, _∙_, ℕ, _+_, _-_, _<_, _≤_, arith, pos, _-ℤ_, needs, lt-ltb, le-ltb}
 use Rattle.notes.specs.Notes.{natural, nearest, noteOf, spelled}
 use Rattle.notes.specs.declared.note.Note.{Note}
 use Rattle.notes.proofs.Counts.{lowered}

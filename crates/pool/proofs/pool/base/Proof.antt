@@ -1,7 +1,5 @@
 -- `pool::pool::base` meets its contract: by what the number names.
-use mathlib.Core.Path.{sym, ap, _∙_}
-use Prim.Native.Nat.{ℕ, _%_}
-use borrow.Author.Needs.{needs}
+use Rattle.answer.proofs.Kit.{sym, ap, _∙_, ℕ, _%_, needs}
 use Rattle.pool.specs.Pool.{baseNamed}
 use Rattle.pool.proofs.pool.base.Statement.{statement}
 use Rattle.pool.proofs.pool.base.Tie as tie

@@ -1,12 +1,5 @@
 -- `pool::pool::laid` meets its contract. The loop's invariant: the tones so far, with those of the pairs left, are all, and blanks are left.
-use mathlib.Core.Path.{_≡_, refl, sym, ap, ap₂, _∙_}
-use mathlib.Core.List.{List, _++_, append-nil}
-use Prim.Native.Nat.{ℕ, _+_, _-_, _≤_, _<_}
-use native.Mathlib.Omega.{arith}
-use lib.ListN.{length, take, drop, getD, set, length-set, take-append-drop}
-use lib.Seq.{slice, drop-drop, drop-set-lt}
-use denote.Ref.{now}
-use borrow.Author.Needs.{needs}
+use Rattle.answer.proofs.Kit.{_≡_, refl, sym, ap, ap₂, _∙_, List, _++_, append-nil, ℕ, _+_, _-_, _≤_, _<_, arith, length, take, drop, getD, set, length-set, take-append-drop, slice, drop-drop, drop-set-lt, now, needs}
 use Rattle.pool.specs.declared.pool.Tone.{Tone}
 use Rattle.pool.specs.Pool.{toneOf, tonesOf}
 use Rattle.pool.specs.private.Places.{blanks}

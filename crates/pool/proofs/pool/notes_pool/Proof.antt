@@ -1,12 +1,5 @@
 -- `pool::pool::notes_pool` meets its contract: as many pairs as fit are laid out.
-use mathlib.Core.Path.{_≡_, _∙_}
-use mathlib.Core.List.{List}
-use mathlib.Core.Logic.{⊎-elim}
-use Prim.Native.Nat.{ℕ}
-use native.Mathlib.Omega.{arith}
-use lib.ListN.{length, take}
-use denote.Ref.{now}
-use borrow.Author.Needs.{needs}
+use Rattle.answer.proofs.Kit.{_≡_, _∙_, List, ⊎-elim, ℕ, arith, length, take, now, needs}
 use Rattle.pool.specs.Pool.{tonesOf}
 use Rattle.pool.proofs.Pairs.{few-classes, few-intervals}
 use Rattle.pool.proofs.Pooled.{fitting, taken-few, pooled}

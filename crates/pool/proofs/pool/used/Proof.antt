@@ -1,6 +1,5 @@
 -- `pool::pool::used` meets its contract: by which range is the shorter.
-use mathlib.Core.Path.{sym}
-use native.Mathlib.Omega.{arith}
+use Rattle.answer.proofs.Kit.{sym, arith}
 use Rattle.pool.proofs.Pairs.{used-classes, used-intervals}
 use Rattle.pool.proofs.pool.used.Statement.{statement}
 use Rattle.pool.proofs.pool.used.Tie as tie

@@ -1,7 +1,5 @@
 -- `qualities::quality::quality` meets its contract: the test says whether the number is a set.
-use mathlib.Core.Path.{ap}
-use borrow.Author.Needs.{needs}
-use borrow.Author.Tests.{lt-leb, le-leb}
+use Rattle.answer.proofs.Kit.{ap, needs, lt-leb, le-leb}
 use Rattle.intervals.specs.Sets.{isSet}
 use Rattle.qualities.specs.Qualities.{qualityAnswer}
 use Rattle.qualities.specs.declared.quality.QualityAnswer.the-variants.{Is}

@@ -1,9 +1,6 @@
 -- `requests::line::bytes` is safe, ends, and counts no more bytes than there is room for.
-use mathlib.Core.Path.{_≡_, refl}
-use Prim.Native.Nat.{_-_, _≤_}
-use lib.ListN.{length as size, length-set}
-use native.Mathlib.Omega.{arith}
-use borrow.Author.Needs.{needs}
+use Rattle.answer.proofs.Kit.{_≡_, refl, _-_, _≤_, length-set, arith, needs}
+use lib.ListN.{length as size}
 use Rattle.requests.proofs.line.bytes.Statement.{statement}
 use Rattle.requests.proofs.line.bytes.Tie as tie
 

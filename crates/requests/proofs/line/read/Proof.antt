@@ -1,8 +1,6 @@
 -- `requests::line::read` is safe and ends: the number is cut before it grows by a digit.
-use Prim.Native.Nat.{_-_, _≤_}
+use Rattle.answer.proofs.Kit.{_-_, _≤_, arith, needs}
 use lib.ListN.{length as size}
-use native.Mathlib.Omega.{arith}
-use borrow.Author.Needs.{needs}
 use Rattle.requests.proofs.line.read.Statement.{statement}
 use Rattle.requests.proofs.line.read.Tie as tie
 

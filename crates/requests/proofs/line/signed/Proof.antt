@@ -1,7 +1,5 @@
 -- `requests::line::signed` is safe: minus a number of three digits fits.
-use Prim.Native.Nat.{_%_}
-use native.Mathlib.Omega.{arith}
-use borrow.Author.Needs.{needs}
+use Rattle.answer.proofs.Kit.{_%_, arith, needs}
 use Rattle.requests.proofs.Signs.{small-minus}
 use Rattle.requests.proofs.line.signed.Statement.{statement}
 use Rattle.requests.proofs.line.signed.Tie as tie

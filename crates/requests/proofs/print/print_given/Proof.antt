@@ -1,6 +1,5 @@
 -- `requests::print::print_given` is safe: the tests say which numbers have a size that fits.
-use native.Mathlib.Omega.{arith}
-use borrow.Author.Needs.{needs}
+use Rattle.answer.proofs.Kit.{arith, needs}
 use Rattle.requests.proofs.Signs.{plain, minus-fits, minus-plain}
 use Rattle.requests.proofs.print.print_given.Statement.{statement}
 use Rattle.requests.proofs.print.print_given.Tie as tie

@@ -1,9 +1,8 @@
 -- `spelling::tones::numbered_word` meets its contract: the tone of the interval that the number names, if it names one.
-use mathlib.Core.Path.{_≡_, sym, _∙_}
-use borrow.Author.Needs.{needs}
+use Rattle.answer.proofs.Kit.{_≡_, sym, _∙_, needs}
 use Rattle.answer.specs.Words.{low, packed}
 use Rattle.intervals.specs.Intervals.{numbered}
-use Rattle.intervals.specs.declared.interval.Numbered.the-variants.{Is}
+use Rattle.intervals.specs.declared.interval.MaybeInterval.the-variants.{Is}
 use Rattle.spelling.specs.Tones.{spelledBy}
 use Rattle.spelling.proofs.Spelled.{interval-moves, tone-worded}
 use Rattle.spelling.proofs.tones.numbered_word.Statement.{statement}

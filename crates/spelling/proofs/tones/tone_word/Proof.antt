@@ -1,8 +1,5 @@
 -- `spelling::tones::tone_word` meets its contract: `get_note` does not refuse the move, and gives a note.
-use mathlib.Core.Path.{_≡_, _∙_}
-use Prim.Native.Nat.{ℕ}
-use native.Mathlib.Omega.{arith}
-use borrow.Author.Needs.{needs}
+use Rattle.answer.proofs.Kit.{_≡_, _∙_, ℕ, arith, needs}
 use Rattle.notes.specs.Notes.{getNote}
 use Rattle.notes.specs.declared.note.NoteAnswer.the-variants.{Is}
 use Rattle.notes.proofs.Sounding.{move-is}

@@ -1,8 +1,5 @@
 -- `spelling::tones::tones` meets its contract: the set, then the note of the root class, say what the call has to give.
-use mathlib.Core.Path.{_≡_, sym, subst, _∙_}
-use mathlib.Core.Bool.{true}
-use denote.Ref.{now}
-use borrow.Author.Needs.{needs}
+use Rattle.answer.proofs.Kit.{_≡_, sym, subst, _∙_, true, now, needs}
 use Rattle.answer.specs.Replies.{Reply, Answered}
 use Rattle.answer.proofs.Rooms.{refused-by}
 use Rattle.answer.proofs.Tests.{refused, admitted}

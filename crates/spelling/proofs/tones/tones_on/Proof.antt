@@ -1,12 +1,5 @@
 -- `spelling::tones::tones_on` meets its contract: a row of the set's tones, of which all but the first space is given.
-use mathlib.Core.Path.{_≡_, sym, ap, subst, _∙_}
-use mathlib.Core.List.{List}
-use Prim.Native.Nat.{ℕ, _≤_}
-use native.Mathlib.Nat.{zero-add, mod-eq-of-lt}
-use native.Mathlib.Omega.{arith}
-use lib.ListN.{length, take}
-use denote.Ref.{now}
-use borrow.Author.Needs.{needs}
+use Rattle.answer.proofs.Kit.{_≡_, sym, ap, subst, _∙_, List, ℕ, _≤_, zero-add, mod-eq-of-lt, arith, length, take, now, needs}
 use Rattle.answer.specs.Replies.{text, Answered}
 use Rattle.intervals.specs.Intervals.{setOf}
 use Rattle.intervals.specs.declared.interval.Interval.{Interval}

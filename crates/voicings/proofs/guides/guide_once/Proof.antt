@@ -1,5 +1,5 @@
 -- `voicings::guides::guide_once` meets its contract: by what the pool holds.
-use borrow.Author.Tests.{not-true, not-false}
+use Rattle.answer.proofs.Kit.{not-true, not-false}
 use Rattle.intervals.specs.Intervals.{setOf}
 use Rattle.voicings.proofs.guides.guide_once.Statement.{statement}
 use Rattle.voicings.proofs.guides.guide_once.Tie as tie

@@ -1,12 +1,5 @@
 -- `voicings::guides::look_for` meets its contract. The loop's invariant: what was found, or the tones that are left, decide.
-use mathlib.Core.Path.{_≡_, refl, sym, ap, _∙_}
-use mathlib.Core.Bool.{Bool, _||_, or-assoc, or-false}
-use mathlib.Core.List.{List}
-use Prim.Native.Nat.{ℕ, _+_, _-_, _≤_, _<_}
-use native.Mathlib.Omega.{arith}
-use lib.ListN.{length, getD}
-use lib.Seq.{slice}
-use borrow.Author.Needs.{needs}
+use Rattle.answer.proofs.Kit.{_≡_, refl, sym, ap, _∙_, Bool, _||_, or-assoc, or-false, List, ℕ, _+_, _-_, _≤_, _<_, arith, length, getD, slice, needs}
 use Rattle.intervals.specs.Sets.{has}
 use Rattle.intervals.specs.Intervals.{setOf}
 use Rattle.pool.specs.declared.pool.Tone.{Tone}

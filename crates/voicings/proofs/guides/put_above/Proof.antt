@@ -1,11 +1,5 @@
 -- `voicings::guides::put_above` meets its contract: guides, tensions and lead stand behind one another.
-use mathlib.Core.Path.{_≡_, sym, ap, ap₂, _∙_}
-use mathlib.Core.Bool.{Bool}
-use mathlib.Core.List.{List, [], _∷_}
-use Prim.Native.Nat.{ℕ, _+_, _≤_, _<_}
-use native.Mathlib.Omega.{arith}
-use lib.ListN.{length, length-set}
-use borrow.Author.Needs.{needs}
+use Rattle.answer.proofs.Kit.{_≡_, sym, ap, ap₂, _∙_, Bool, List, [], _∷_, ℕ, _+_, _≤_, _<_, arith, length, length-set, needs}
 use Rattle.answer.specs.Written.{Writes}
 use Rattle.answer.proofs.Writing.{also, same-text, stored}
 use Rattle.intervals.specs.Intervals.{setOf}

@@ -1,11 +1,6 @@
 -- `voicings::guides::tension_once` meets its contract: by what the pool holds, and whether it is small or very small.
-use mathlib.Core.Path.{_≡_, refl}
-use mathlib.Core.Bool.{Bool, true, false, not, cond, _&&_}
-use mathlib.Core.List.{[], _∷_, _++_}
-use Prim.Native.Nat.{_+_, _*_, _%_}
-use lib.Dec.{ltb}
+use Rattle.answer.proofs.Kit.{_≡_, refl, Bool, true, false, not, cond, _&&_, [], _∷_, _++_, _+_, _*_, _%_, ltb, needs}
 use mir.Val.{boolByte}
-use borrow.Author.Needs.{needs}
 use Rattle.intervals.specs.Intervals.{setOf}
 use Rattle.intervals.specs.declared.interval.Interval.the-variants.{Unison, DiminishedFifth, PerfectFifth, MajorSixth, MajorSeventh}
 use Rattle.voicings.proofs.guides.tension_once.Statement.{statement}

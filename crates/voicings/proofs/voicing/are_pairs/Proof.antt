@@ -1,14 +1,5 @@
 -- `voicings::voicing::are_pairs` meets its contract. The loop's invariant: the pairs that are left decide.
-use mathlib.Core.Path.{_≡_, refl, sym, ap, ap₂, _∙_}
-use mathlib.Core.Bool.{Bool, _&&_}
-use mathlib.Core.List.{List}
-use Prim.Native.Nat.{ℕ, _+_, _-_, _≤_, _<_}
-use native.Mathlib.Omega.{arith}
-use lib.Dec.{leb}
-use lib.ListN.{length, take, getD}
-use lib.Seq.{slice}
-use denote.Ref.{now}
-use borrow.Author.Tests.{lt-leb, le-leb}
+use Rattle.answer.proofs.Kit.{_≡_, refl, sym, ap, ap₂, _∙_, Bool, _&&_, List, ℕ, _+_, _-_, _≤_, _<_, arith, leb, length, take, getD, slice, now, lt-leb, le-leb}
 use Rattle.pool.specs.Pool.{tonesOf}
 use Rattle.voicings.specs.Voicing.{arePairs}
 use Rattle.pool.proofs.Left.{next, none}

@@ -1,6 +1,5 @@
 -- `voicings::voicing::is_bass` meets its contract: by whether there is one.
-use mathlib.Core.Path.{sym, ap}
-use borrow.Author.Needs.{needs}
+use Rattle.answer.proofs.Kit.{sym, ap, needs}
 use Rattle.voicings.specs.Voicing.{isBass}
 use Rattle.voicings.proofs.voicing.is_bass.Statement.{statement}
 use Rattle.voicings.proofs.voicing.is_bass.Tie as tie

@@ -1,11 +1,5 @@
 -- `voicings::voicing::put_bass` meets its contract: by whether there is a bass.
-use mathlib.Core.Path.{refl, sym, ap, _∙_}
-use mathlib.Core.List.{List, [], _∷_}
-use Prim.Native.Nat.{ℕ, _≤_}
-use native.Mathlib.Omega.{arith}
-use lib.Dec.{leb→le}
-use lib.ListN.{length, set}
-use borrow.Author.Needs.{needs}
+use Rattle.answer.proofs.Kit.{refl, sym, ap, _∙_, List, [], _∷_, ℕ, _≤_, arith, leb→le, length, set, needs}
 use Rattle.answer.specs.Written.{Writes}
 use Rattle.answer.proofs.Tests.{said}
 use Rattle.voicings.specs.Voicing.{isBass}

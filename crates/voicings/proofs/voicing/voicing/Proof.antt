@@ -1,5 +1,5 @@
 -- `voicings::voicing::voicing` meets its contract: it hands the range over.
-use borrow.Author.Needs.{needs}
+use Rattle.answer.proofs.Kit.{needs}
 use Rattle.voicings.proofs.voicing.voicing.Statement.{statement}
 use Rattle.voicings.proofs.voicing.voicing.Tie as tie
 

@@ -1,15 +1,5 @@
 -- `voicings::voicing::voicing_within` meets its contract: the tests say what the call has to give, and `give` gives it.
-use mathlib.Core.Path.{_≡_, sym, ap, ap₂, subst, _∙_}
-use mathlib.Core.Bool.{Bool, true, _&&_}
-use mathlib.Core.List.{List, _++_}
-use Prim.Native.Nat.{ℕ, suc, _+_, _≤_, _<_}
-use native.Mathlib.Numerals.{add-one}
-use native.Mathlib.Omega.{arith}
-use lib.Dec.{leb, leb→le}
-use lib.ListN.{length, take, replicate}
-use lib.Seq.{take-all}
-use denote.Ref.{now}
-use borrow.Author.Needs.{needs}
+use Rattle.answer.proofs.Kit.{_≡_, sym, ap, ap₂, subst, _∙_, Bool, true, _&&_, List, _++_, ℕ, suc, _+_, _≤_, _<_, add-one, arith, leb, leb→le, length, take, replicate, take-all, now, needs}
 use Rattle.answer.specs.Replies.{Reply, text, Answered}
 use Rattle.answer.specs.Written.{Writes}
 use Rattle.answer.proofs.Rooms.{refused-by}

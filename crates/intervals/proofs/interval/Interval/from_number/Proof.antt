@@ -1,5 +1,5 @@
 -- `qualities::interval::Interval::from_number` meets its contract: each arm is the interval at its number, and the last is past them all.
-use mathlib.Core.Path.{sym}
+use Rattle.answer.proofs.Kit.{sym}
 use Rattle.intervals.specs.Intervals.{intervals, nth, numbered}
 use Rattle.intervals.proofs.Rows.{past}
 use Rattle.intervals.proofs.interval.Interval.from_number.Statement.{statement}

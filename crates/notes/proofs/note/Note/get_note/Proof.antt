@@ -1,9 +1,5 @@
 -- `notes::note::Note::get_note` meets its contract: the tests say which case of its answer holds.
-use mathlib.Core.Path.{ap}
-use Prim.Native.Nat.{_<_}
-use native.Mathlib.Omega.{arith}
-use borrow.Author.Needs.{needs}
-use borrow.Author.Tests.{le-leb, lt-leb}
+use Rattle.answer.proofs.Kit.{ap, _<_, arith, needs, le-leb, lt-leb}
 use Rattle.answer.proofs.Tests.{refused, admitted}
 use Rattle.notes.specs.Notes.{getNoteAnswer}
 use Rattle.notes.specs.declared.note.NoteAnswer.the-variants.{Is}

@@ -1,7 +1,5 @@
 -- `notes::note::Note::new` meets its contract: a signed number whose bits are 0 is 0.
-use mathlib.Core.Path.{_≡_, ap, sym, _∙_}
-use lib.Dec.{T, eqb, eqb→eq, not-T}
-use lib.IntN.{ℤ, pos, negsuc}
+use Rattle.answer.proofs.Kit.{_≡_, ap, sym, _∙_, T, eqb, eqb→eq, not-T, ℤ, pos, negsuc}
 use mir.Syntax.{w32}
 use mir.Val.{SFits, toZ, ofZ}
 use mir.Facts.{toZ-ofZ}

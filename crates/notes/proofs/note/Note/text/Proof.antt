@@ -1,11 +1,5 @@
 -- `notes::note::Note::text` meets its contract: the note's word fills a buffer of eight bytes from the front, and its text is given.
-use mathlib.Core.Path.{_≡_, ap, sym, _∙_}
-use mathlib.Core.Bool.{true}
-use mathlib.Core.List.{List}
-use Prim.Native.Nat.{ℕ}
-use native.Mathlib.Omega.{arith}
-use lib.ListN.{length, take, length-take}
-use borrow.Author.Needs.{needs}
+use Rattle.answer.proofs.Kit.{_≡_, ap, sym, _∙_, true, List, ℕ, arith, length, take, length-take, needs}
 use Rattle.answer.specs.Words.{packed}
 use Rattle.answer.proofs.Rooms.{refused as no}
 use Rattle.answer.proofs.Digits.{put-first}

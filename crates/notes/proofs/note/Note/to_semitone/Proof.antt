@@ -1,6 +1,5 @@
 -- `notes::note::Note::to_semitone` meets its contract.
-use mathlib.Core.Path.{ap}
-use borrow.Author.Needs.{needs}
+use Rattle.answer.proofs.Kit.{ap, needs}
 use Rattle.answer.proofs.Tests.{refused, admitted}
 use Rattle.notes.specs.Notes.{semitoneAnswer}
 use Rattle.notes.specs.declared.note.SemitoneAnswer.the-variants.{Is}

@@ -1,10 +1,5 @@
 -- `notes::note::Note::to_word` meets its contract: the letter's byte, and the signs of its height behind it.
-use mathlib.Core.Path.{ap, ap₂, sym, _∙_}
-use mathlib.Core.List.{_∷_}
-use Prim.Native.Nat.{_+_}
-use native.Mathlib.Omega.{arith}
-use lib.IntN.{ℤ}
-use borrow.Author.Needs.{needs}
+use Rattle.answer.proofs.Kit.{ap, ap₂, sym, _∙_, _∷_, _+_, arith, ℤ, needs}
 use Rattle.answer.specs.Words.{packed}
 use Rattle.answer.proofs.Digits.{packed-cons}
 use Rattle.answer.proofs.Tests.{refused, admitted}

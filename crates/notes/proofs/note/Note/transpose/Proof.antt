@@ -1,9 +1,5 @@
 -- `notes::note::Note::transpose` meets its contract: the tests say whether all three are notes.
-use mathlib.Core.Path.{_≡_, ap, ap₂, _∙_}
-use mathlib.Core.Bool.{true}
-use Prim.Native.Nat.{ℕ, _+_, _-_, _%_, _<_}
-use native.Mathlib.Omega.{arith}
-use borrow.Author.Needs.{needs}
+use Rattle.answer.proofs.Kit.{_≡_, ap, ap₂, _∙_, true, ℕ, _+_, _-_, _%_, _<_, arith, needs}
 use Rattle.answer.proofs.Tests.{refused, admitted}
 use Rattle.notes.specs.Notes.{isNote, getNote, transposed, transposeAnswer}
 use Rattle.notes.specs.declared.note.NoteAnswer.the-variants.{Is}

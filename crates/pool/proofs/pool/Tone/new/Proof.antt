@@ -1,5 +1,5 @@
 -- `pool::pool::Tone::new` meets its contract: with its base.
-use borrow.Author.Needs.{needs}
+use Rattle.answer.proofs.Kit.{needs}
 use Rattle.pool.proofs.pool.Tone.new.Statement.{statement}
 use Rattle.pool.proofs.pool.Tone.new.Tie as tie
 

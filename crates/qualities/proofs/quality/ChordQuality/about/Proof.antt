@@ -1,5 +1,5 @@
 -- `qualities::quality::ChordQuality::about` meets its contract: each arm has the row of its quality.
-use borrow.Author.Needs.{needs}
+use Rattle.answer.proofs.Kit.{needs}
 use Rattle.qualities.specs.declared.quality.ChordQuality.the-variants.{Maj, Maj6, Maj7, Dominant7, Mi, Mi6, Mi7, MiMaj7, Augmented, Diminished, Diminished7, Power, Bass}
 use Rattle.qualities.proofs.Rows.{kept}
 use Rattle.qualities.proofs.quality.ChordQuality.about.Statement.{statement}

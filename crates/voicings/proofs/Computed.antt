@@ -1,4 +1,4 @@
--- What a voicing is made of, opened by one name: a declaration with the line `unfolding voicing-opened` computes voicings.
+-- What a voicing is made of, opened by one name: a declaration with the line `unfolding voicing-computed` computes voicings.
 use mathlib.Core.Option.{Option·elim}
 use Rattle.intervals.specs.Sets.{has, isIn}
 use Rattle.intervals.specs.Intervals.{intervals, nth, numbered, setOf}
@@ -10,6 +10,6 @@ use Rattle.voicings.specs.Guides.{holdsAny, sixths, sevenths, guides, te
 use Rattle.voicings.specs.Voicing.{aboveBass, above, voicingOf, arePairs, voicingReply}
 
 -- the numbers and sets of intervals; the pool and its keys; the lead; guides and tensions; the whole
-unfoldable pub voicing-opened : Unit {0}
+unfoldable pub voicing-computed : Unit {0}
 unfolding has isIn intervals nth numbered setOf tonesOf anyTone insert sorted keysFrom keysOf keysOfTone keysOfTones nearest Option·elim without chosen otherTones placedIn placed barring lastOf unbarred owns withoutLast leadOf holdsAny sixths sevenths guides tensions guideKeys tensionKeys aboveBass above voicingOf arePairs voicingReply
-voicing-opened = tt
+voicing-computed = tt
