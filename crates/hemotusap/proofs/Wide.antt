@@ -12,7 +12,7 @@ use Rattle.answer.specs.declared.refusal.Refusal.the-variants.{NoRoom}
 use Rattle.answer.specs.declared.output.Output.{Output}
 use Rattle.answer.specs.declared.output.Output.the-variants.{Written, Refused}
 use Rattle.answer.proofs.Tests.{said}
-use Rattle.hemotusap.specs.Host.{Fits}
+use Rattle.hemotusap.specs.private.Wide.{Fits}
 
 pub fits-pos : (n : ℕ) → n < 2 ^ 63 → SFits w64 (pos n)
 fits-pos n h = record { sfits = h }

@@ -3,7 +3,7 @@
 use mathlib.Core.Path.{_≡_}
 use mathlib.Core.Bool.{cond}
 use mathlib.Core.List.{List}
-use Prim.Native.Nat.{ℕ, _+_, _*_, _^_, _<_}
+use Prim.Native.Nat.{ℕ, _+_, _*_}
 use lib.Dec.{eqb, leb}
 use lib.IntN.{ℤ, pos, negℤ, _+ℤ_}
 use Rattle.answer.specs.Refusals.{numberOf}
@@ -66,8 +66,3 @@ leadFrom lead = cond (leb lead 255) (Lead.Key lead) Lead.None
 -- a chord record of the host's numbers
 abbrev pub chordFrom : ℕ → ℕ → ℕ → Chord
 chordFrom root bass lead = record { root = root; bass = bassFrom bass; lead = leadFrom lead }
-
--- an answer's count of bytes is one that a host's 64 bits hold
-abbrev pub Fits : Output → Type 0
-Fits (Output.Written n) = n < 2 ^ 63
-Fits (Output.Refused why) = Unit {0}

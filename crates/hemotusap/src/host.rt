@@ -6,7 +6,8 @@ use notes::note::Note;
 use notes::note::NoteAnswer;
 use qualities::quality::QualityAnswer;
 ghost use mathlib.Core.Path.{_≡_};
-ghost use Rattle.hemotusap.specs.Host.{Fits, refusalNumber, outputNumber, qualityNumber, noteNumber, noteAnswerNumber};
+ghost use Rattle.hemotusap.specs.Host.{refusalNumber, outputNumber, qualityNumber, noteNumber, noteAnswerNumber};
+ghost use Rattle.hemotusap.specs.private.Wide.{Fits};
 
 fn refused(why: Refusal) -> i64
     ensures { λ r. ⌜ r ≡ refusalNumber why ⌝ }

@@ -12,7 +12,8 @@ use Rattle.intervals.specs.declared.interval.MaybeInterval.{MaybeInterval}
 use Rattle.intervals.specs.declared.interval.MaybeInterval.the-variants.{Is, Nothing}
 use Rattle.rules.specs.Classes.{intervalsIn}
 use Rattle.inference.proofs.First.{First, lowest-of, bit, none-in}
-use Rattle.spelling.specs.Tones.{numberedName, toneNames, spaced, joined}
+use Rattle.spelling.specs.Tones.{toneNames, spaced, joined}
+use Rattle.spelling.specs.private.Numbers.{numberedName}
 use Rattle.spelling.proofs.Spelled.{tone-short}
 
 abbrev rowOf : (Interval → IntDegree) → Note → ℕ → List ℕ

@@ -18,7 +18,8 @@ use Rattle.intervals.specs.declared.interval.MaybeInterval.{MaybeInterval}
 use Rattle.intervals.specs.declared.interval.MaybeInterval.the-variants as Number
 use Rattle.notes.proofs.Names.{name-short}
 use Rattle.notes.proofs.Sounding.{move-is}
-use Rattle.spelling.specs.Tones.{toneOf, toneName, numberedName}
+use Rattle.spelling.specs.Tones.{toneOf, toneName}
+use Rattle.spelling.specs.private.Numbers.{numberedName}
 
 -- a move from a note is not refused
 pub move-given : (n : Note) (semitones degree : ℕ) → isNote n ≡ true → isMove semitones degree ≡ true → getNoteAnswer n semitones degree ≡ Is (getNote n semitones degree)

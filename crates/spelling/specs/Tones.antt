@@ -9,8 +9,6 @@ use Rattle.intervals.specs.Sets.{isRooted}
 use Rattle.intervals.specs.Intervals.{semitonesOf, degreeOf, numericOf}
 use Rattle.intervals.specs.declared.interval.Interval.{Interval}
 use Rattle.intervals.specs.declared.interval.IntDegree.{IntDegree}
-use Rattle.intervals.specs.declared.interval.MaybeInterval.{MaybeInterval}
-use Rattle.intervals.specs.declared.interval.MaybeInterval.the-variants.{Is, Nothing}
 use Rattle.notes.specs.Notes.{getNote}
 use Rattle.notes.specs.NoteText.{signs, noteName}
 use Rattle.notes.specs.declared.note.Note.{Note}
@@ -30,11 +28,6 @@ toneOf degrees root i = getNote root (semitonesOf i) (numericOf (degrees i))
 -- its text
 unfoldable pub toneName : (Interval → IntDegree) → Note → Interval → List ℕ
 toneName degrees root i = noteName signs (toneOf degrees root i)
-
--- the same for what a number names: of no interval, nothing
-abbrev pub numberedName : (Interval → IntDegree) → Note → MaybeInterval → List ℕ
-numberedName degrees root (Is i) = toneName degrees root i
-numberedName degrees root Nothing = []
 
 -- the texts of some intervals' notes, in their order
 abbrev pub toneNames : (Interval → IntDegree) → Note → List Interval → List (List ℕ)

@@ -22,7 +22,8 @@ ghost use Rattle.intervals.specs.Intervals.{numbered};
 ghost use Rattle.notes.specs.Notes.{isNote, isMove, getNote};
 ghost use Rattle.notes.specs.NoteText.{signs, noteName};
 ghost use Rattle.rules.specs.Classes.{intervalsIn};
-ghost use Rattle.spelling.specs.Tones.{spelledBy, numberedName, toneNames, spaced, tonesOf, tonesReply};
+ghost use Rattle.spelling.specs.Tones.{spelledBy, toneNames, spaced, tonesOf, tonesReply};
+ghost use Rattle.spelling.specs.private.Numbers.{numberedName};
 
 // A space, as a word.
 const SPACE: u64 = 0x0100000000000020;

@@ -1,7 +1,8 @@
 -- `hemotusap::host::written` meets its contract: by the answer's case.
 use Rattle.answer.proofs.Kit.{ap, sym, subst, _∙_, needs}
 use mir.Facts.{toZ-ofZ}
-use Rattle.hemotusap.specs.Host.{Fits, outputNumber}
+use Rattle.hemotusap.specs.Host.{outputNumber}
+use Rattle.hemotusap.specs.private.Wide.{Fits}
 use Rattle.hemotusap.proofs.Wide.{held-pos, fits-pos}
 use Rattle.hemotusap.proofs.host.written.Statement.{statement}
 use Rattle.hemotusap.proofs.host.written.Tie as tie
