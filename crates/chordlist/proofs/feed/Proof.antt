@@ -48,8 +48,7 @@ returns c =
 
 pub feed-spec : {M : Type 1} → statement M
 feed-spec =
-    tie.close
-    (tie.spec
+    tie.close (tie.spec
     Inv-loop
     μ-loop
     loop-holds

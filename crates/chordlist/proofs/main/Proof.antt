@@ -32,8 +32,7 @@ within c = omega (arith, fronted (c .finish .ensures) .fits, c .finish .kept .1 
 
 pub main-spec : {M : Type 1} → statement M
 main-spec =
-    tie.close
-    (tie.spec
+    tie.close (tie.spec
     Inv-loop
     μ-loop
     (λ c κs. search needs)

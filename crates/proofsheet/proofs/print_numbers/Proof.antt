@@ -11,8 +11,7 @@ abbrev μ-loop : tie.MeasureT-loop
 
 pub print-numbers-spec : {M : Type 1} → statement M
 print-numbers-spec =
-    tie.close
-    (tie.spec
+    tie.close (tie.spec
     Inv-loop
     μ-loop
     (λ c. search needs)
@@ -22,15 +21,10 @@ print-numbers-spec =
     (λ c κs. search needs)
     (λ c. omega (arith, c .wide .ensures))
     (λ c. omega arith)
-    (λ c. search needs)
-    (λ c κs. search needs)
-    (λ c κs. search needs)
+    (λ c. search needs) (λ c κs. search needs) (λ c κs. search needs)
     (λ c. omega arith)
     (λ c. omega arith)
     (λ c. omega arith)
     (λ c. omega arith)
-    (λ c. search needs)
-    (λ c κs. search needs)
-    (λ c. search needs)
-    (λ c κs. search needs)
+    (λ c. search needs) (λ c κs. search needs) (λ c. search needs) (λ c κs. search needs)
     (λ c. search needs))

@@ -5,10 +5,8 @@ use Rattle.requests.proofs.candidates.Tie as tie
 
 pub candidates-spec : {M : Type 1} → statement M
 candidates-spec =
-    tie.close
-    (tie.spec
-    (λ c. search needs)
-    (λ c κs. search needs)
+    tie.close (tie.spec
+    (λ c. search needs) (λ c κs. search needs)
     (λ c. omega arith)
     (λ c. sym (length-take-le _ _ (c .before .before .bytes .ensures)))
     (λ c κs. search needs)

@@ -27,8 +27,7 @@ returns-2 c =
 
 pub give-spec : {M : Type 1} → statement M
 give-spec =
-    tie.close
-    (tie.spec
+    tie.close (tie.spec
     Inv-loop
     μ-loop
     (λ c. no-room _ _ (c .if1 .taken))

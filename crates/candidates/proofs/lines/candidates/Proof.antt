@@ -36,16 +36,12 @@ returns c =
 
 pub candidates-spec : {M : Type 1} → statement M
 candidates-spec =
-    tie.close
-    (tie.spec
-    (λ c. search needs)
-    (λ c κs. search needs)
-    (λ c. search needs)
+    tie.close (tie.spec
+    (λ c. search needs) (λ c κs. search needs) (λ c. search needs)
     (λ c. omega (arith, found-few (c .before .before .find .ensures)))
     (λ c. let f = c .before .before .before .find .ensures in f .size ∙ ap length (sym (f .classes)))
     put-lines-requires
     (λ c. within (c .before .put-lines .ensures))
     (λ c. counted (c .before .before .put-lines .ensures))
-    (λ c κs. search needs)
-    (λ c. search needs)
+    (λ c κs. search needs) (λ c. search needs)
     returns)

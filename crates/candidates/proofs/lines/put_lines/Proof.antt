@@ -150,20 +150,17 @@ returns-2 c =
 
 pub put-lines-spec : {M : Type 1} → statement M
 put-lines-spec =
-    tie.close
-    (tie.spec
+    tie.close (tie.spec
     Inv-loop
     μ-loop
     (λ c. none-listed table _ _ _ (c .if1 .taken))
     (λ c. omega arith)
-    (λ c κs. search needs)
-    (λ c κs. search needs)
+    (λ c κs. search needs) (λ c κs. search needs)
     (λ c κs. first-long c)
     (λ c κs. let n = c .before .before in (first-long n, first-is (n .before) .0, n .before .before .before .before .before .before .pre .0, first-is (n .before) .1, omega arith, omega (arith, n .before .before .before .before .before .before .pre .3)))
     loop-holds
     (λ c. omega arith)
-    (λ c κs. search needs)
-    (λ c κs. search needs)
+    (λ c κs. search needs) (λ c κs. search needs)
     (λ c. omega (arith, roomy (c .before .before .before)))
     (λ c. omega (arith, roomy (c .before .before .before)))
     (λ c. search needs)

@@ -84,8 +84,7 @@ loop-again c =
 
 pub read-codes-spec : {M : Type 1} → statement M
 read-codes-spec =
-    tie.close
-    (tie.spec
+    tie.close (tie.spec
     Inv-loop
     μ-loop
     (λ c. (omega arith, none _ (c .if1 .taken)))

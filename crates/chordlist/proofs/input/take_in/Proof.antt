@@ -21,16 +21,11 @@ module _ (c : tie.Else1) where
 
 pub take-in-spec : {M : Type 1} → statement M
 take-in-spec =
-    tie.close
-    (tie.spec
+    tie.close (tie.spec
     (λ c. search needs)
     (λ c. sym (length-take-le _ _ (omega arith)))
-    (λ c κs. search needs)
-    (λ c. search needs)
-    (λ c. search needs)
+    (λ c κs. search needs) (λ c. search needs) (λ c. search needs)
     returns
     (λ c. let s = c .before .before .before .before in (full (now (s .args .line)) (s .args .kept) (s .args .byte) (s .pre .1) (c .before .if1 .left) (c .if2 .taken), nothing-said (c .before)))
-    (λ c. search needs)
-    (λ c. search needs)
-    (λ c. search needs)
+    (λ c. search needs) (λ c. search needs) (λ c. search needs)
     (λ c. let s = c .before .before .before .before in (kept (now (s .args .line)) (s .args .kept) (s .args .byte) (s .pre .1) (c .before .if1 .left) (omega (arith, s .pre .0)), nothing-said (c .before))))

@@ -55,18 +55,13 @@ returns-2 c = rw (unread c) (two-more [] (now (c .before .before .before .args .
 
 pub reply-spec : {M : Type 1} → statement M
 reply-spec =
-    tie.close
-    (tie.spec
-    (λ c. search needs)
-    (λ c κs. search needs)
-    (λ c. search needs)
+    tie.close (tie.spec
+    (λ c. search needs) (λ c κs. search needs) (λ c. search needs)
     (λ c. within (c .before))
     (λ c. sym (length-take-le _ _ (within (c .before .before))))
-    (λ c κs. search needs)
-    (λ c. search needs)
+    (λ c κs. search needs) (λ c. search needs)
     returns
-    (λ c. search needs)
-    (λ c. search needs)
+    (λ c. search needs) (λ c. search needs)
     (λ c. simp length-set (omega (arith, c .before .before .before .pre)))
     (λ c. search needs)
     returns-2)

@@ -58,16 +58,13 @@ returns-2 c =
 
 pub reply-codes-spec : {M : Type 1} → statement M
 reply-codes-spec =
-    tie.close
-    (tie.spec
-    (λ c κs. search needs)
-    (λ c. search needs)
+    tie.close (tie.spec
+    (λ c κs. search needs) (λ c. search needs)
     (λ c. omega (arith, stop-place c .1))
     (λ c. omega (arith, stop-place c .0))
     (λ c. simp length-set (omega (arith, stop-place c .1)))
     (λ c. omega (arith, stop-place c .0))
-    (λ c. search needs)
-    (λ c. search needs)
+    (λ c. search needs) (λ c. search needs)
     returns
     (λ c. search needs)
     returns-2)

@@ -39,17 +39,11 @@ returns-2 c =
 
 pub describe-spec : {M : Type 1} → statement M
 describe-spec =
-    tie.close
-    (tie.spec
+    tie.close (tie.spec
     (λ c κs. search needs)
     (λ c. not-rooted _ (refused _ _ (c .before .is-rooted .ensures) (c .if1 .taken)))
     (λ c κs. search needs)
     (λ c κs. (is (c .before), intervals-told c))
-    (λ c κs. search needs)
-    (λ c κs. search needs)
-    (λ c κs. search needs)
-    (λ c κs. search needs)
-    (λ c κs. search needs)
-    (λ c κs. search needs)
+    (λ c κs. search needs) (λ c κs. search needs) (λ c κs. search needs) (λ c κs. search needs) (λ c κs. search needs) (λ c κs. search needs)
     (λ c κs. search needs)
     returns-2)

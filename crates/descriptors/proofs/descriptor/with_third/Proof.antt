@@ -20,7 +20,6 @@ module _ (b : tie.Start) where
 
 pub with-third-spec : {M : Type 1} → statement M
 with-third-spec =
-    tie.close
-    (tie.spec
+    tie.close (tie.spec
     (λ c. (told (c .before) _ (search yes), or-lt 12 _ _ (small (c .before)) (omega arith)))
     (λ c. (told (c .before) _ (search no-then), small (c .before))))

@@ -9,11 +9,9 @@ use Rattle.hemotusap.proofs.host.written.Tie as tie
 
 pub written-spec : {M : Type 1} → statement M
 written-spec =
-    tie.close
-    (tie.spec
+    tie.close (tie.spec
     (λ c. search needs)
     (λ c. fits-pos _ (subst Fits (c .before .output .given .1) (c .before .before .before .pre)))
-    (λ c. search needs)
-    (λ c κs. search needs)
+    (λ c. search needs) (λ c κs. search needs)
     (λ c. held-pos _ (subst Fits (c .before .output .given .1) (c .before .before .before .pre)) ∙ ap outputNumber (sym (c .before .output .given .1)))
     (λ c. toZ-ofZ (search needs) ∙ c .refused .ensures ∙ ap outputNumber (sym (c .before .before .output2 .given .1))))

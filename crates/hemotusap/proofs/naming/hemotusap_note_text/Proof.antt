@@ -18,10 +18,8 @@ returns c =
 
 pub hemotusap-note-text-spec : {M : Type 1} → statement M
 hemotusap-note-text-spec =
-    tie.close
-    (tie.spec
-    (λ c κs. search needs)
-    (λ c κs. search needs)
+    tie.close (tie.spec
+    (λ c κs. search needs) (λ c κs. search needs)
     (λ c κs. output-fits _ (now (c .before .before .before .before .before .before .args .out)) _ (omega arith) (c .before .before .text .ensures .0))
     (λ c. search needs)
     returns)

@@ -6,8 +6,6 @@ use Rattle.hemotusap.proofs.symbols.hemotusap_candidate_count.Tie as ti
 
 pub hemotusap-candidate-count-spec : {M : Type 1} → statement M
 hemotusap-candidate-count-spec =
-    tie.close
-    (tie.spec
-    (λ c κs. search needs)
-    (λ c. search needs)
+    tie.close (tie.spec
+    (λ c κs. search needs) (λ c. search needs)
     (λ c. held-pos _ (omega arith) ∙ ap pos (c .candidate-count .ensures)))

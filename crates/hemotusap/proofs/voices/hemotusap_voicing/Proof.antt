@@ -15,11 +15,8 @@ returns c =
 
 pub hemotusap-voicing-spec : {M : Type 1} → statement M
 hemotusap-voicing-spec =
-    tie.close
-    (tie.spec
-    (λ c κs. search needs)
-    (λ c κs. search needs)
-    (λ c κs. search needs)
+    tie.close (tie.spec
+    (λ c κs. search needs) (λ c κs. search needs) (λ c κs. search needs)
     (λ c κs. output-fits _ (now (c .before .before .before .before .before .before .before .before .before .args .out)) _ (omega arith) (c .before .before .voicing .ensures .0))
     (λ c. search needs)
     returns)

@@ -114,15 +114,11 @@ returns c =
 
 pub put-parentheses-spec : {M : Type 1} → statement M
 put-parentheses-spec =
-    tie.close
-    (tie.spec
-    (λ c κs. search needs)
-    (λ c κs. search needs)
+    tie.close (tie.spec
+    (λ c κs. search needs) (λ c κs. search needs)
     first-room
     second-room
     third-room
     fourth-room
-    (λ c κs. search needs)
-    (λ c κs. search needs)
-    (λ c. search needs)
+    (λ c κs. search needs) (λ c κs. search needs) (λ c. search needs)
     returns)

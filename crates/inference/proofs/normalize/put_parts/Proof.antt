@@ -13,8 +13,7 @@ abbrev μ-loop : tie.MeasureT-loop
 
 pub put-parts-spec : {M : Type 1} → statement M
 put-parts-spec =
-    tie.close
-    (tie.spec
+    tie.close (tie.spec
     Inv-loop
     μ-loop
     (λ c. begin _ _ _ _ _ (c .before .pre .0) (c .before .pre .1))

@@ -38,18 +38,15 @@ described c = let a = c .before .before in Replied.described (a .before .before 
 
 pub put-suffix-spec : {M : Type 1} → statement M
 put-suffix-spec =
-    tie.close
-    (tie.spec
+    tie.close (tie.spec
     (λ c. no-room _ _ _ (let h = c .if1 .taken in omega arith))
     (λ c. search needs)
     (λ c. no-room _ _ _ (let h = c .if2 .taken in let k = c .before .if1 .left in omega arith))
-    (λ c κs. search needs)
-    (λ c. search needs)
+    (λ c κs. search needs) (λ c. search needs)
     (λ c κs. let k = c .before .before in
     let e = k .before .before .before in
     (is-small _ _ (described k), room _ _ (described k) _ _ (let h = e .if2 .left in let g = e .before .if1 .left in omega arith)))
-    (λ c. search needs)
-    (λ c. search needs)
+    (λ c. search needs) (λ c. search needs)
     (λ c. let p = c .before .before in
     let k = p .before .before .before in
     let e = k .before .before .before in

@@ -34,14 +34,11 @@ returns-2 c =
 
 pub suffix-spec : {M : Type 1} → statement M
 suffix-spec =
-    tie.close
-    (tie.spec
+    tie.close (tie.spec
     (λ c κs. search needs)
     (λ c. refused-by _ _ _ (not-rooted _ (refused _ _ (c .before .is-rooted .ensures) (c .if1 .taken))))
-    (λ c. search needs)
-    (λ c κs. search needs)
+    (λ c. search needs) (λ c κs. search needs)
     (λ c. within (stands (c .before)))
     (λ c. counted (stands (c .before .before)))
-    (λ c κs. search needs)
-    (λ c. search needs)
+    (λ c κs. search needs) (λ c. search needs)
     returns-2)

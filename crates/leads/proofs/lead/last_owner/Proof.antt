@@ -54,8 +54,7 @@ returns-2 c =
 
 pub last-owner-spec : {M : Type 1} → statement M
 last-owner-spec =
-    tie.close
-    (tie.spec
+    tie.close (tie.spec
     Inv-loop
     μ-loop
     loop-holds

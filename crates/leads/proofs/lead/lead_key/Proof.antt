@@ -89,17 +89,14 @@ returns c =
 
 pub lead-key-spec : {M : Type 1} → statement M
 lead-key-spec =
-    tie.close
-    (tie.spec
+    tie.close (tie.spec
     Inv-loop
     μ-loop
-    (λ c κs. search needs)
-    (λ c κs. search needs)
+    (λ c κs. search needs) (λ c κs. search needs)
     (λ c. (omega arith, rw (c .nothing .ensures)))
     (λ c. omega arith)
     (λ c. omega arith)
-    (λ c κs. search needs)
-    (λ c κs. search needs)
+    (λ c κs. search needs) (λ c κs. search needs)
     (λ c. omega arith)
     (λ c. omega arith)
     loop-again

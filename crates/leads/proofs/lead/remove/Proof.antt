@@ -63,8 +63,7 @@ returns-2 c =
 
 pub remove-spec : {M : Type 1} → statement M
 remove-spec =
-    tie.close
-    (tie.spec
+    tie.close (tie.spec
     Inv-loop
     μ-loop
     returns

@@ -42,8 +42,7 @@ returns-2 c =
 
 pub unbarred-spec : {M : Type 1} → statement M
 unbarred-spec =
-    tie.close
-    (tie.spec
+    tie.close (tie.spec
     Inv-loop
     μ-loop
     returns

@@ -41,8 +41,7 @@ returns-3 c =
 
 pub is-same-spec : {M : Type 1} → statement M
 is-same-spec =
-    tie.close
-    (tie.spec
+    tie.close (tie.spec
     Inv-loop
     μ-loop
     (λ c. sym (other-length _ _ (λ e. let no-way : ⊥ = omega arith in no-way)))

@@ -15,10 +15,8 @@ stands c =
 
 pub is-suffix-spec : {M : Type 1} → statement M
 is-suffix-spec =
-    tie.close
-    (tie.spec
-    (λ c. search needs)
-    (λ c κs. search needs)
+    tie.close (tie.spec
+    (λ c. search needs) (λ c κs. search needs)
     (λ c. within (stands (c .before)))
     (λ c. counted (stands (c .before .before)))
     (λ c κs. search needs)

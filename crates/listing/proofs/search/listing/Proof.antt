@@ -16,13 +16,10 @@ returns c =
 
 pub listing-spec : {M : Type 1} → statement M
 listing-spec =
-    tie.close
-    (tie.spec
+    tie.close (tie.spec
     returns
-    (λ c. search needs)
-    (λ c κs. search needs)
+    (λ c. search needs) (λ c κs. search needs)
     (λ c. within (c .before .search .ensures))
     (λ c. counted (c .before .before .search .ensures))
-    (λ c κs. search needs)
-    (λ c. search needs)
+    (λ c κs. search needs) (λ c. search needs)
     (λ c. rw (c .before .before .before .before .before .before .search .ensures .added) at (c .before .before .give .ensures)))

@@ -6,13 +6,8 @@ use Rattle.listing.proofs.search.put_set.Tie as tie
 
 pub put-set-spec : {M : Type 1} → statement M
 put-set-spec =
-    tie.close
-    (tie.spec
-    (λ c. search needs)
-    (λ c. search needs)
-    (λ c. search needs)
-    (λ c. search needs)
+    tie.close (tie.spec
+    (λ c. search needs) (λ c. search needs) (λ c. search needs) (λ c. search needs)
     (λ c. rw length-set (omega arith))
-    (λ c. search needs)
-    (λ c. search needs)
+    (λ c. search needs) (λ c. search needs)
     (λ c. puts-set (now (c .args .found)) (c .args .at) _ _ (omega arith)))

@@ -45,8 +45,7 @@ returns c =
 
 pub search-spec : {M : Type 1} → statement M
 search-spec =
-    tie.close
-    (tie.spec
+    tie.close (tie.spec
     Inv-loop
     μ-loop
     loop-holds

@@ -13,8 +13,7 @@ returns c =
 
 pub moved-spec : {M : Type 1} → statement M
 moved-spec =
-    tie.close
-    (tie.spec
+    tie.close (tie.spec
     (λ c κs. search needs)
     (λ c. omega arith)
     (λ c. omega arith)

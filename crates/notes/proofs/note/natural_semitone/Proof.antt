@@ -8,12 +8,6 @@ returns-7 c = let last : c .before .args .letter ≡ 6 = omega arith in (rw last
 
 pub natural-semitone-spec : {M : Type 1} → statement M
 natural-semitone-spec =
-    tie.close
-    (tie.spec
-    (λ c. search needs)
-    (λ c. search needs)
-    (λ c. search needs)
-    (λ c. search needs)
-    (λ c. search needs)
-    (λ c. search needs)
+    tie.close (tie.spec
+    (λ c. search needs) (λ c. search needs) (λ c. search needs) (λ c. search needs) (λ c. search needs) (λ c. search needs)
     returns-7)

@@ -11,8 +11,7 @@ returns c =
 
 pub pitch-spec : {M : Type 1} → statement M
 pitch-spec =
-    tie.close
-    (tie.spec
+    tie.close (tie.spec
     (λ c κs. letter-less (c .args .note) (c .pre))
     (λ c κs. search needs)
     (λ c. omega (arith, height-is (c .before .before .args .note) (c .before .before .pre)))

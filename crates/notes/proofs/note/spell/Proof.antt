@@ -40,8 +40,7 @@ returns-3 c =
 
 pub spell-spec : {M : Type 1} → statement M
 spell-spec =
-    tie.close
-    (tie.spec
+    tie.close (tie.spec
     (λ c. omega arith)
     (λ c κs. search needs)
     (λ c. omega arith)

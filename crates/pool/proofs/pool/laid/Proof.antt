@@ -52,8 +52,7 @@ returns c =
 
 pub laid-spec : {M : Type 1} → statement M
 laid-spec =
-    tie.close
-    (tie.spec
+    tie.close (tie.spec
     Inv-loop
     μ-loop
     (λ c. (omega arith, refl, refl, refl))

@@ -12,8 +12,7 @@ abbrev μ-loop : tie.MeasureT-loop
 
 pub asks-spec : {M : Type 1} → statement M
 asks-spec =
-    tie.close
-    (tie.spec
+    tie.close (tie.spec
     Inv-loop
     μ-loop
     (λ c. search needs)

@@ -12,8 +12,7 @@ abbrev μ-loop : tie.MeasureT-loop
 
 pub behind-digits-spec : {M : Type 1} → statement M
 behind-digits-spec =
-    tie.close
-    (tie.spec
+    tie.close (tie.spec
     Inv-loop
     μ-loop
     (λ c. omega arith)

@@ -12,8 +12,7 @@ abbrev μ-loop : tie.MeasureT-loop
 
 pub next-spec : {M : Type 1} → statement M
 next-spec =
-    tie.close
-    (tie.spec
+    tie.close (tie.spec
     Inv-loop
     μ-loop
     (λ c. omega arith)

@@ -12,8 +12,7 @@ abbrev μ-loop : tie.MeasureT-loop
 
 pub part-spec : {M : Type 1} → statement M
 part-spec =
-    tie.close
-    (tie.spec
+    tie.close (tie.spec
     Inv-loop
     μ-loop
     (λ c. omega arith)

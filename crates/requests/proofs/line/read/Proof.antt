@@ -12,8 +12,7 @@ abbrev μ-loop : tie.MeasureT-loop
 
 pub read-spec : {M : Type 1} → statement M
 read-spec =
-    tie.close
-    (tie.spec
+    tie.close (tie.spec
     Inv-loop
     μ-loop
     (λ c. omega arith)

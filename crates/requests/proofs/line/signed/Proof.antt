@@ -6,11 +6,8 @@ use Rattle.requests.proofs.line.signed.Tie as tie
 
 pub signed-spec : {M : Type 1} → statement M
 signed-spec =
-    tie.close
-    (tie.spec
-    (λ c κs. search needs)
-    (λ c κs. search needs)
-    (λ c κs. search needs)
+    tie.close (tie.spec
+    (λ c κs. search needs) (λ c κs. search needs) (λ c κs. search needs)
     (λ c. omega arith)
     (λ c. small-minus (c .before .read .result % 1000) (omega arith))
     (λ c. search needs)

@@ -6,15 +6,12 @@ use Rattle.requests.proofs.print.print_given.Tie as tie
 
 pub print-given-spec : {M : Type 1} → statement M
 print-given-spec =
-    tie.close
-    (tie.spec
+    tie.close (tie.spec
     (λ c. plain (c .before .args .given) (search needs) (c .if1 .taken))
-    (λ c κs. search needs)
-    (λ c. search needs)
+    (λ c κs. search needs) (λ c. search needs)
     (λ c. omega arith)
     (λ c κs. search needs)
     (λ c. minus-fits (c .before .before .before .before .args .given) (search needs) (c .before .before .before .if1 .left) (c .before .before .if2 .taken))
     (λ c. minus-plain (c .before .before .before .before .args .given) (search needs) (c .before .before .before .if1 .left) (c .before .before .if2 .taken))
-    (λ c κs. search needs)
-    (λ c. search needs)
+    (λ c κs. search needs) (λ c. search needs)
     (λ c. search needs))

@@ -33,13 +33,8 @@ tone-word-requires c κs =
 
 pub numbered-word-spec : {M : Type 1} → statement M
 numbered-word-spec =
-    tie.close
-    (tie.spec
-    (λ c κs. search needs)
-    (λ c. search needs)
-    (λ c κs. search needs)
-    (λ c κs. search needs)
-    (λ c κs. search needs)
+    tie.close (tie.spec
+    (λ c κs. search needs) (λ c. search needs) (λ c κs. search needs) (λ c κs. search needs) (λ c κs. search needs)
     tone-word-requires
     (λ c. search needs)
     returns

@@ -25,8 +25,7 @@ loop-again c =
 
 pub put-tones-spec : {M : Type 1} → statement M
 put-tones-spec =
-    tie.close
-    (tie.spec
+    tie.close (tie.spec
     Inv-loop
     μ-loop
     (λ c. begin spelledBy _ _ _ (c .before .pre .1) (c .before .pre .2))

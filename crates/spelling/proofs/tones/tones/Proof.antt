@@ -46,14 +46,11 @@ returns-3 c =
 
 pub tones-spec : {M : Type 1} → statement M
 tones-spec =
-    tie.close
-    (tie.spec
+    tie.close (tie.spec
     (λ c κs. search needs)
     (λ c. refused-by _ _ _ (not-rooted spelledBy _ _ (refused _ _ (c .before .is-rooted .ensures) (c .if1 .taken))))
-    (λ c κs. search needs)
-    (λ c. search needs)
+    (λ c κs. search needs) (λ c. search needs)
     tones-on-requires
-    (λ c. search needs)
-    (λ c. search needs)
+    (λ c. search needs) (λ c. search needs)
     returns-2
     returns-3)

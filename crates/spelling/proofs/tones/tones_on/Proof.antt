@@ -55,14 +55,11 @@ returns c =
 
 pub tones-on-spec : {M : Type 1} → statement M
 tones-on-spec =
-    tie.close
-    (tie.spec
-    (λ c. search needs)
-    (λ c κs. search needs)
+    tie.close (tie.spec
+    (λ c. search needs) (λ c κs. search needs)
     put-tones-requires
     (λ c. counts (c .before) .0)
     (λ c. counts (c .before .before) .0)
     (λ c. counts (c .before .before) .1)
-    (λ c κs. search needs)
-    (λ c. search needs)
+    (λ c κs. search needs) (λ c. search needs)
     returns)

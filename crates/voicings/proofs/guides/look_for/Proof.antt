@@ -52,15 +52,13 @@ returns c =
 
 pub look-for-spec : {M : Type 1} → statement M
 look-for-spec =
-    tie.close
-    (tie.spec
+    tie.close (tie.spec
     Inv-loop
     μ-loop
     (λ c. (omega arith, refl, refl))
     (λ c. omega arith)
     (λ c. omega arith)
-    (λ c κs. search needs)
-    (λ c κs. search needs)
+    (λ c κs. search needs) (λ c κs. search needs)
     (λ c. omega arith)
     (λ c. omega arith)
     loop-again

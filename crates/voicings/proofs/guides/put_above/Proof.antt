@@ -73,10 +73,8 @@ returns c =
 
 pub put-above-spec : {M : Type 1} → statement M
 put-above-spec =
-    tie.close
-    (tie.spec
-    (λ c κs. search needs)
-    (λ c κs. search needs)
+    tie.close (tie.spec
+    (λ c κs. search needs) (λ c κs. search needs)
     (λ c κs. let s = c .before .before .before .before .before in (s .pre .0, omega (arith, s .pre .1)))
     (λ c κs. search needs)
     (λ c κs. let g = c .before .before .before .before in (start g .pre .0, omega (arith, guided g, g .put-placed .kept .0, start g .pre .1)))

@@ -57,8 +57,7 @@ returns-3 c =
 
 pub are-pairs-spec : {M : Type 1} → statement M
 are-pairs-spec =
-    tie.close
-    (tie.spec
+    tie.close (tie.spec
     Inv-loop
     μ-loop
     (λ c. (omega arith, refl))

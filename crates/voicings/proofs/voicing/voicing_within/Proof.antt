@@ -137,18 +137,14 @@ returns-4 c =
 
 pub voicing-within-spec : {M : Type 1} → statement M
 voicing-within-spec =
-    tie.close
-    (tie.spec
+    tie.close (tie.spec
     (λ c κs. search needs)
     returns
     (λ c κs. search needs)
     returns-2
     (λ c κs. (in-classes c, in-intervals c))
     returns-3
-    (λ c. search needs)
-    (λ c κs. search needs)
-    (λ c κs. search needs)
-    (λ c. search needs)
+    (λ c. search needs) (λ c κs. search needs) (λ c κs. search needs) (λ c. search needs)
     (λ c κs. let e = pairs (c .before) .before .before in (is-root e, is-bass e, omega arith))
     (λ c. search needs)
     (λ c κs. let b = c .before .before in
@@ -157,6 +153,5 @@ voicing-within-spec =
     (is-pool a, omega (arith, b .put-bass .ensures .place, few-bass (s .args .chord .root) (s .args .chord .bass), b .put-bass .kept .0)))
     (λ c. within (stands (c .before)))
     (λ c. counted (stands (c .before .before)))
-    (λ c κs. search needs)
-    (λ c. search needs)
+    (λ c κs. search needs) (λ c. search needs)
     returns-4)

@@ -32,15 +32,11 @@ returns-2 c =
 pub text-spec : {M : Type 1} → statement M
 unfolding noteReply
 text-spec =
-    tie.close
-    (tie.spec
+    tie.close (tie.spec
     (λ c κs. search needs)
     (λ c. rw (refused _ _ (c .before .is-note .ensures) (c .if1 .taken)) (no _ _))
-    (λ c. search needs)
-    (λ c κs. search needs)
-    (λ c κs. search needs)
+    (λ c. search needs) (λ c κs. search needs) (λ c κs. search needs)
     (λ c. omega (arith, stands (c .before) .0, ap length (stands (c .before) .1), length-take (c .before .put .result) (c .before .put .last .0)))
     (λ c. let s = stands (c .before .before) in s .0 ∙ ap length (sym (s .1)))
-    (λ c κs. search needs)
-    (λ c. search needs)
+    (λ c κs. search needs) (λ c. search needs)
     returns-2)

@@ -7,21 +7,9 @@ use Rattle.qualities.proofs.quality.ChordQuality.about.Tie as tie
 
 pub about-spec : {M : Type 1} → statement M
 about-spec =
-    tie.close
-    (tie.spec
-    (λ c. search needs)
-    (λ c. search needs)
-    (λ c. search needs)
-    (λ c. search needs)
-    (λ c. search needs)
-    (λ c. search needs)
-    (λ c. search needs)
-    (λ c. search needs)
-    (λ c. search needs)
-    (λ c. search needs)
-    (λ c. search needs)
-    (λ c. search needs)
-    (λ c. search needs)
+    tie.close (tie.spec
+    (λ c. search needs) (λ c. search needs) (λ c. search needs) (λ c. search needs) (λ c. search needs) (λ c. search needs) (λ c. search needs)
+    (λ c. search needs) (λ c. search needs) (λ c. search needs) (λ c. search needs) (λ c. search needs) (λ c. search needs)
     (λ c. kept _ Maj (c .enum-told .given .1))
     (λ c. kept _ Maj6 (c .enum-told2 .given .1))
     (λ c. kept _ Maj7 (c .enum-told3 .given .1))
