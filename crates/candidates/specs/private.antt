@@ -1,1 +1,2 @@
+-- What no public contract cites: a reader need not believe any of it.
 pub mod Finds

@@ -47,8 +47,7 @@ returns c =
     rw (end, take-length) at (h .inv .4)
 
 pub feed-spec : {M : Type 1} → statement M
-feed-spec =
-    tie.close (tie.spec
+feed-spec = tie.close (tie.spec
     Inv-loop
     μ-loop
     loop-holds

@@ -31,8 +31,7 @@ within : (c : tie.After-finish Inv-loop μ-loop) → c .finish .result ≤ size 
 within c = omega (arith, fronted (c .finish .ensures) .fits, c .finish .kept .1 .0)
 
 pub main-spec : {M : Type 1} → statement M
-main-spec =
-    tie.close (tie.spec
+main-spec = tie.close (tie.spec
     Inv-loop
     μ-loop
     (λ c κs. search needs)

@@ -10,8 +10,7 @@ abbrev μ-loop : tie.MeasureT-loop
 μ-loop out of-two count number₀ i₀ t8 t9 number i = count - i
 
 pub print-numbers-spec : {M : Type 1} → statement M
-print-numbers-spec =
-    tie.close (tie.spec
+print-numbers-spec = tie.close (tie.spec
     Inv-loop
     μ-loop
     (λ c. search needs)

@@ -4,8 +4,7 @@ use Rattle.requests.proofs.candidate_count.Statement.{statement}
 use Rattle.requests.proofs.candidate_count.Tie as tie
 
 pub candidate-count-spec : {M : Type 1} → statement M
-candidate-count-spec =
-    tie.close (tie.spec
+candidate-count-spec = tie.close (tie.spec
     (λ c. search needs) (λ c κs. search needs)
     (λ c. omega arith)
     (λ c. sym (length-take-le _ _ (c .before .before .bytes .ensures)))

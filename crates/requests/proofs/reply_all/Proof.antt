@@ -11,8 +11,7 @@ abbrev μ-loop : tie.MeasureT-loop
 μ-loop input start₀ at₀ t4 start at = size input - at
 
 pub reply-all-spec : {M : Type 1} → statement M
-reply-all-spec =
-    tie.close (tie.spec
+reply-all-spec = tie.close (tie.spec
     Inv-loop
     μ-loop
     (λ c. omega arith)

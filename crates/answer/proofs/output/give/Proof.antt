@@ -26,8 +26,7 @@ returns-2 c =
     (ap Written end ∙ w .0, c .before .loop .inv .1 ∙ rw end (rw take-length (w .1)))
 
 pub give-spec : {M : Type 1} → statement M
-give-spec =
-    tie.close (tie.spec
+give-spec = tie.close (tie.spec
     Inv-loop
     μ-loop
     (λ c. no-room _ _ (c .if1 .taken))

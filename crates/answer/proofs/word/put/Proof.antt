@@ -5,8 +5,7 @@ use Rattle.answer.proofs.word.put.Statement.{statement}
 use Rattle.answer.proofs.word.put.Tie as tie
 
 pub put-spec : {M : Type 1} → statement M
-put-spec =
-    tie.close (tie.spec
+put-spec = tie.close (tie.spec
     (λ c. put-nothing _ _ (c .before .args .word) (omega arith))
     (λ c. search needs)
     (λ c. put-nothing _ _ (c .before .before .args .word) (omega arith))

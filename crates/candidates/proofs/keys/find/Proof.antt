@@ -55,8 +55,7 @@ returns c =
     subst (λ (l : List ℕ). Finds l (h .order) (h .set) (h .count)) all (h .inv .1)
 
 pub find-spec : {M : Type 1} → statement M
-find-spec =
-    tie.close (tie.spec
+find-spec = tie.close (tie.spec
     Inv-loop
     μ-loop
     (λ c. (omega arith, none-found _, refl))

@@ -31,8 +31,7 @@ module _ (root s seen k class : ℕ) (h : k < 12) (e : seen ≡ seenBelow k root
 
 pub seen-from-spec : {M : Type 1} → statement M
 unfolding setBelow
-seen-from-spec =
-    tie.close (tie.spec
+seen-from-spec = tie.close (tie.spec
     Inv-loop
     μ-loop
     (λ c. (omega arith, refl))

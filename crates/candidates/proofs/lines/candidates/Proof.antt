@@ -35,8 +35,7 @@ returns c =
     subst (λ (t : List ℕ). Answered (text t) (now (s .args .out)) (g .give .result) (g .give .last .1 .0)) (stands put) (g .give .ensures)
 
 pub candidates-spec : {M : Type 1} → statement M
-candidates-spec =
-    tie.close (tie.spec
+candidates-spec = tie.close (tie.spec
     (λ c. search needs) (λ c κs. search needs) (λ c. search needs)
     (λ c. omega (arith, found-few (c .before .before .find .ensures)))
     (λ c. let f = c .before .before .before .find .ensures in f .size ∙ ap length (sym (f .classes)))

@@ -149,8 +149,7 @@ returns-2 c =
     same-text (all-lines table (s .args .set) order (root .wide .result) (root .wide .ensures) (omega arith)) (also (wrote-first f) (so-far-all (h .inv .0) none .wrote))
 
 pub put-lines-spec : {M : Type 1} → statement M
-put-lines-spec =
-    tie.close (tie.spec
+put-lines-spec = tie.close (tie.spec
     Inv-loop
     μ-loop
     (λ c. none-listed table _ _ _ (c .if1 .taken))

@@ -83,8 +83,7 @@ loop-again c =
     (c .if2 .came)
 
 pub read-codes-spec : {M : Type 1} → statement M
-read-codes-spec =
-    tie.close (tie.spec
+read-codes-spec = tie.close (tie.spec
     Inv-loop
     μ-loop
     (λ c. (omega arith, none _ (c .if1 .taken)))

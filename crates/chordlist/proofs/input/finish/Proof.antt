@@ -18,8 +18,7 @@ last-line [] other = absurd (other refl)
 last-line (b ∷ more) other = refl
 
 pub finish-spec : {M : Type 1} → statement M
-finish-spec =
-    tie.close (tie.spec
+finish-spec = tie.close (tie.spec
     (λ c. rw (no-line (now (c .before .before .before .args .line)) (c .if1 .taken)) (no-text (now (c .before .before .before .args .out))))
     (λ c κs. search needs) (λ c. search needs)
     (λ c. rw (last-line _ (c .before .before .before .before .if1 .left)) (c .before .before .reply .ensures)))

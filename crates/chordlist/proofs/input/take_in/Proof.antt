@@ -20,8 +20,7 @@ module _ (c : tie.Else1) where
   nothing-said = silent flats _ _ (c .if1 .left) _
 
 pub take-in-spec : {M : Type 1} → statement M
-take-in-spec =
-    tie.close (tie.spec
+take-in-spec = tie.close (tie.spec
     (λ c. search needs)
     (λ c. sym (length-take-le _ _ (omega arith)))
     (λ c κs. search needs) (λ c. search needs) (λ c. search needs)

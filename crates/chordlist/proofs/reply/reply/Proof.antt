@@ -54,8 +54,7 @@ returns-2 : tie.Need-returns-2
 returns-2 c = rw (unread c) (two-more [] (now (c .before .before .before .args .out)) 63 10 (omega (arith, c .before .before .before .pre)))
 
 pub reply-spec : {M : Type 1} → statement M
-reply-spec =
-    tie.close (tie.spec
+reply-spec = tie.close (tie.spec
     (λ c. search needs) (λ c κs. search needs) (λ c. search needs)
     (λ c. within (c .before))
     (λ c. sym (length-take-le _ _ (within (c .before .before))))

@@ -57,8 +57,7 @@ returns-2 c =
     absurd (let bottom : ⊥ = omega arith in bottom)
 
 pub reply-codes-spec : {M : Type 1} → statement M
-reply-codes-spec =
-    tie.close (tie.spec
+reply-codes-spec = tie.close (tie.spec
     (λ c κs. search needs) (λ c. search needs)
     (λ c. omega (arith, stop-place c .1))
     (λ c. omega (arith, stop-place c .0))

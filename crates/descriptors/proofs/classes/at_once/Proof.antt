@@ -5,8 +5,7 @@ use Rattle.descriptors.proofs.classes.at_once.Statement.{statement}
 use Rattle.descriptors.proofs.classes.at_once.Tie as tie
 
 pub at-once-spec : {M : Type 1} → statement M
-at-once-spec =
-    tie.close (tie.spec
+at-once-spec = tie.close (tie.spec
     (λ c. search needs) (λ c. search needs) (λ c. search needs) (λ c. search needs) (λ c. search needs) (λ c. search needs) (λ c. search needs)
     (λ c. search needs)
     (λ c. once-told _ (search needs)))

@@ -6,8 +6,7 @@ use Rattle.descriptors.proofs.classes.resolve_augmented_fifth.Statement
 use Rattle.descriptors.proofs.classes.resolve_augmented_fifth.Tie as tie
 
 pub resolve-augmented-fifth-spec : {M : Type 1} → statement M
-resolve-augmented-fifth-spec =
-    tie.close (tie.spec
+resolve-augmented-fifth-spec = tie.close (tie.spec
     (λ c. class-8-told _ _ (search needs) (search yes))
     (λ c. class-8-told _ _ (search needs) (search (yes, no-then)))
     (λ c. class-8-told _ _ (search needs) (search (yes, no-then)))

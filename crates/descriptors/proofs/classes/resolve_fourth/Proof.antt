@@ -6,8 +6,7 @@ use Rattle.descriptors.proofs.classes.resolve_fourth.Statement.{stateme
 use Rattle.descriptors.proofs.classes.resolve_fourth.Tie as tie
 
 pub resolve-fourth-spec : {M : Type 1} → statement M
-resolve-fourth-spec =
-    tie.close (tie.spec
+resolve-fourth-spec = tie.close (tie.spec
     (λ c. class-6-told _ _ (search needs) (search yes))
     (λ c. class-6-told _ _ (search needs) (search (yes, no-then)))
     (λ c. class-6-told _ _ (search needs) (search no-then)))

@@ -6,8 +6,7 @@ use Rattle.descriptors.proofs.classes.resolve_sixth.Statement.{statemen
 use Rattle.descriptors.proofs.classes.resolve_sixth.Tie as tie
 
 pub resolve-sixth-spec : {M : Type 1} → statement M
-resolve-sixth-spec =
-    tie.close (tie.spec
+resolve-sixth-spec = tie.close (tie.spec
     (λ c. class-9-told _ _ (search needs) (search yes))
     (λ c. class-9-told _ _ (search needs) (search (yes, no-then)))
     (λ c. class-9-told _ _ (search needs) (search (yes, no-then)))

@@ -6,8 +6,7 @@ use Rattle.descriptors.proofs.classes.resolve_third.Statement.{statemen
 use Rattle.descriptors.proofs.classes.resolve_third.Tie as tie
 
 pub resolve-third-spec : {M : Type 1} → statement M
-resolve-third-spec =
-    tie.close (tie.spec
+resolve-third-spec = tie.close (tie.spec
     (λ c. class-3-told _ _ (search needs) (search yes))
     (λ c. class-3-told _ _ (search needs) (search (yes, no-then)))
     (λ c. class-3-told _ _ (search needs) (search no-then)))

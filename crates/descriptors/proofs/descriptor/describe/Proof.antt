@@ -38,8 +38,7 @@ returns-2 c =
     ∙ rooted (set e) (is e)
 
 pub describe-spec : {M : Type 1} → statement M
-describe-spec =
-    tie.close (tie.spec
+describe-spec = tie.close (tie.spec
     (λ c κs. search needs)
     (λ c. not-rooted _ (refused _ _ (c .before .is-rooted .ensures) (c .if1 .taken)))
     (λ c κs. search needs)

@@ -5,8 +5,7 @@ use Rattle.descriptors.proofs.descriptor.shown_quality.Statement.{state
 use Rattle.descriptors.proofs.descriptor.shown_quality.Tie as tie
 
 pub shown-quality-spec : {M : Type 1} → statement M
-shown-quality-spec =
-    tie.close (tie.spec
+shown-quality-spec = tie.close (tie.spec
     (λ c κs. search needs) (λ c κs. search needs) (λ c. search needs) (λ c. search needs)
     (λ c. shown _ _ _ (c .before .before .before .quality .ensures) (c .before .before .before .before .with-third .ensures) _ (c .before .quality2 .given .1))
     (λ c. absurd (refused _ _ _ (c .before .before .quality .ensures) (c .before .before .before .with-third .ensures) _ (c .enum-told .given .1))))

@@ -5,8 +5,7 @@ use Rattle.descriptors.proofs.descriptor.split_extensions.Statement.{st
 use Rattle.descriptors.proofs.descriptor.split_extensions.Tie as tie
 
 pub split-extensions-spec : {M : Type 1} → statement M
-split-extensions-spec =
-    tie.close (tie.spec
+split-extensions-spec = tie.close (tie.spec
     (λ c κs. search needs) (λ c κs. search needs) (λ c κs. search needs) (λ c κs. search needs) (λ c κs. search needs) (λ c κs. search needs)
     (λ c κs. search needs)
     (λ c. let m = c .before in

@@ -19,7 +19,6 @@ module _ (b : tie.Start) where
   told r e = e ∙ ap (withThirdFrom set) (b .pre .1) ∙ with-third set (b .pre .0)
 
 pub with-third-spec : {M : Type 1} → statement M
-with-third-spec =
-    tie.close (tie.spec
+with-third-spec = tie.close (tie.spec
     (λ c. (told (c .before) _ (search yes), or-lt 12 _ _ (small (c .before)) (omega arith)))
     (λ c. (told (c .before) _ (search no-then), small (c .before))))

@@ -7,8 +7,7 @@ use Rattle.descriptors.proofs.kinds.kind_of.Tie as tie
 
 pub kind-of-spec : {M : Type 1} → statement M
 unfolding bytes low packed isIn
-kind-of-spec =
-    tie.close (tie.spec
+kind-of-spec = tie.close (tie.spec
     (λ c. search needs) (λ c. search needs) (λ c. search needs) (λ c. search needs) (λ c. search needs) (λ c. search needs) (λ c. search needs)
     (λ c. search needs) (λ c. search needs) (λ c. search needs) (λ c. search needs) (λ c. search needs) (λ c. search needs)
     (λ c. rw (c .enum-told .given .1))

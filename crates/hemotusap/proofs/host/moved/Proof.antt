@@ -6,8 +6,7 @@ use Rattle.hemotusap.proofs.host.moved.Statement.{statement}
 use Rattle.hemotusap.proofs.host.moved.Tie as tie
 
 pub moved-spec : {M : Type 1} → statement M
-moved-spec =
-    tie.close (tie.spec
+moved-spec = tie.close (tie.spec
     (λ c. search needs) (λ c κs. search needs) (λ c. search needs) (λ c κs. search needs)
     (λ c. toZ-ofZ (search needs) ∙ c .note-number .ensures ∙ ap noteAnswerNumber (sym (c .before .before .answer .given .1)))
     (λ c. toZ-ofZ (search needs) ∙ c .refused .ensures ∙ ap noteAnswerNumber (sym (c .before .before .answer2 .given .1))))

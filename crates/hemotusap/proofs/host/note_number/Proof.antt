@@ -40,8 +40,7 @@ returns-2 c =
     ∙ ap (λ (x : Accidental). pos (16 * a .letter + 6) +ℤ countOf x) (sym (read .1))
 
 pub note-number-spec : {M : Type 1} → statement M
-note-number-spec =
-    tie.close (tie.spec
+note-number-spec = tie.close (tie.spec
     (λ c. search needs) (λ c. search needs) (λ c. search needs) (λ c. search needs) (λ c. search needs) (λ c. search needs)
     (λ c. count-fits (c .before .before .before .args .note .letter) (search needs) (c .before .accidental .given .0 .0) (search needs))
     (λ c. sum-fits (c .before .before .before .args .note .letter) (search needs) (c .before .accidental .given .0 .0) (search needs))

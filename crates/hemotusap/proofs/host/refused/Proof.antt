@@ -18,8 +18,7 @@ module _ (n : ℕ) (h : n < 2 ^ 32) where
   fits = rw turned (fits-neg n small)
 
 pub refused-spec : {M : Type 1} → statement M
-refused-spec =
-    tie.close (tie.spec
+refused-spec = tie.close (tie.spec
     (λ c κs. search needs) (λ c. search needs)
     (λ c. fits (c .number .result) (search needs))
     (λ c. toZ-ofZ (fits (c .number .result) (search needs)) ∙ turned (c .number .result) (search needs) ∙ ap (λ (n : ℕ). negℤ (pos n)) (c .number .ensures)))

@@ -8,8 +8,7 @@ use Rattle.hemotusap.proofs.host.written.Statement.{statement}
 use Rattle.hemotusap.proofs.host.written.Tie as tie
 
 pub written-spec : {M : Type 1} → statement M
-written-spec =
-    tie.close (tie.spec
+written-spec = tie.close (tie.spec
     (λ c. search needs)
     (λ c. fits-pos _ (subst Fits (c .before .output .given .1) (c .before .before .before .pre)))
     (λ c. search needs) (λ c κs. search needs)

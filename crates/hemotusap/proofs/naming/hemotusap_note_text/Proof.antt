@@ -17,8 +17,7 @@ returns c =
     (toZ-ofZ (search needs) ∙ c .written .ensures ∙ ap outputNumber (made .0), made .1)
 
 pub hemotusap-note-text-spec : {M : Type 1} → statement M
-hemotusap-note-text-spec =
-    tie.close (tie.spec
+hemotusap-note-text-spec = tie.close (tie.spec
     (λ c κs. search needs) (λ c κs. search needs)
     (λ c κs. output-fits _ (now (c .before .before .before .before .before .before .args .out)) _ (omega arith) (c .before .before .text .ensures .0))
     (λ c. search needs)

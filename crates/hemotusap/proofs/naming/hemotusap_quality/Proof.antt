@@ -6,7 +6,6 @@ use Rattle.hemotusap.proofs.naming.hemotusap_quality.Statement.{stateme
 use Rattle.hemotusap.proofs.naming.hemotusap_quality.Tie as tie
 
 pub hemotusap-quality-spec : {M : Type 1} → statement M
-hemotusap-quality-spec =
-    tie.close (tie.spec
+hemotusap-quality-spec = tie.close (tie.spec
     (λ c κs. search needs) (λ c κs. search needs)
     (λ c. toZ-ofZ (search needs) ∙ c .quality-number .ensures ∙ ap qualityNumber (c .before .quality .ensures)))

@@ -7,8 +7,7 @@ use Rattle.hemotusap.proofs.symbols.hemotusap_candidates.Statement.{sta
 use Rattle.hemotusap.proofs.symbols.hemotusap_candidates.Tie as tie
 
 pub hemotusap-candidates-spec : {M : Type 1} → statement M
-hemotusap-candidates-spec =
-    tie.close (tie.spec
+hemotusap-candidates-spec = tie.close (tie.spec
     (λ c κs. search needs)
     (λ c κs. output-fits _ (now (c .before .before .before .before .before .before .args .out)) _ (omega arith) (c .before .before .candidates .ensures .0))
     (λ c. search needs)

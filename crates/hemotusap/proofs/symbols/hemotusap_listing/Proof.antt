@@ -7,8 +7,7 @@ use Rattle.hemotusap.proofs.symbols.hemotusap_listing.Statement.{statem
 use Rattle.hemotusap.proofs.symbols.hemotusap_listing.Tie as tie
 
 pub hemotusap-listing-spec : {M : Type 1} → statement M
-hemotusap-listing-spec =
-    tie.close (tie.spec
+hemotusap-listing-spec = tie.close (tie.spec
     (λ c κs. search needs)
     (λ c κs. output-fits _ (now (c .before .before .before .before .before .before .args .out)) _ (omega arith) (c .before .before .listing .ensures .0))
     (λ c. search needs)

@@ -7,8 +7,7 @@ use Rattle.hemotusap.proofs.symbols.hemotusap_suffix.Statement.{stateme
 use Rattle.hemotusap.proofs.symbols.hemotusap_suffix.Tie as tie
 
 pub hemotusap-suffix-spec : {M : Type 1} → statement M
-hemotusap-suffix-spec =
-    tie.close (tie.spec
+hemotusap-suffix-spec = tie.close (tie.spec
     (λ c κs. search needs)
     (λ c κs. output-fits _ (now (c .before .before .before .before .before .args .out)) _ (omega arith) (c .before .before .suffix .ensures .0))
     (λ c. search needs)

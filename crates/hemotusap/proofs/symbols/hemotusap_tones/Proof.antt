@@ -7,8 +7,7 @@ use Rattle.hemotusap.proofs.symbols.hemotusap_tones.Statement.{statemen
 use Rattle.hemotusap.proofs.symbols.hemotusap_tones.Tie as tie
 
 pub hemotusap-tones-spec : {M : Type 1} → statement M
-hemotusap-tones-spec =
-    tie.close (tie.spec
+hemotusap-tones-spec = tie.close (tie.spec
     (λ c κs. search needs)
     (λ c κs. output-fits _ (now (c .before .before .before .before .before .args .out)) _ (omega arith) (c .before .before .tones .ensures .0))
     (λ c. search needs)

@@ -14,8 +14,7 @@ returns c =
     (toZ-ofZ (search needs) ∙ c .written .ensures ∙ ap outputNumber (made .0), made .1)
 
 pub hemotusap-voicing-spec : {M : Type 1} → statement M
-hemotusap-voicing-spec =
-    tie.close (tie.spec
+hemotusap-voicing-spec = tie.close (tie.spec
     (λ c κs. search needs) (λ c κs. search needs) (λ c κs. search needs)
     (λ c κs. output-fits _ (now (c .before .before .before .before .before .before .before .before .before .args .out)) _ (omega arith) (c .before .before .voicing .ensures .0))
     (λ c. search needs)

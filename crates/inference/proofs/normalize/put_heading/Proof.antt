@@ -38,8 +38,7 @@ returns c =
     sus .wrote
 
 pub put-heading-spec : {M : Type 1} → statement M
-put-heading-spec =
-    tie.close (tie.spec
+put-heading-spec = tie.close (tie.spec
     (λ c κs. search needs) (λ c κs. search needs) (λ c κs. search needs) (λ c κs. search needs) (λ c κs. search needs) (λ c κs. search needs)
     (λ c κs. search needs) (λ c κs. search needs) (λ c. search needs)
     returns)

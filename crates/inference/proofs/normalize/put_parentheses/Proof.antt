@@ -113,8 +113,7 @@ returns c =
     (subst (λ (x : List (List ℕ)). a .start + length (parenthesized x) + 8 ≤ length (now (a .buffer))) (sym told) (entered b .pre .1)) (put .put .ensures))
 
 pub put-parentheses-spec : {M : Type 1} → statement M
-put-parentheses-spec =
-    tie.close (tie.spec
+put-parentheses-spec = tie.close (tie.spec
     (λ c κs. search needs) (λ c κs. search needs)
     first-room
     second-room

@@ -32,8 +32,7 @@ returns c =
     named .wrote
 
 pub put-part-spec : {M : Type 1} → statement M
-put-part-spec =
-    tie.close (tie.spec
+put-part-spec = tie.close (tie.spec
     (λ c κs. search needs) (λ c κs. search needs) (λ c κs. search needs) (λ c κs. search needs) (λ c κs. search needs) (λ c κs. search needs)
     (λ c κs. search needs) (λ c. search needs)
     returns)

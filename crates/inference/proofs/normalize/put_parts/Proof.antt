@@ -12,8 +12,7 @@ abbrev μ-loop : tie.MeasureT-loop
 μ-loop buffer₀ from start set at₀ left₀ prefix₀ buffer at left prefix = left
 
 pub put-parts-spec : {M : Type 1} → statement M
-put-parts-spec =
-    tie.close (tie.spec
+put-parts-spec = tie.close (tie.spec
     Inv-loop
     μ-loop
     (λ c. begin _ _ _ _ _ (c .before .pre .0) (c .before .pre .1))

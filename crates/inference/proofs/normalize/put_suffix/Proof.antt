@@ -37,8 +37,7 @@ described : (c : tie.After-descriptor) → let a = c .before .before in
 described c = let a = c .before .before in Replied.described (a .before .before .before .before .args .set) _ (a .describe .ensures) _ (c .descriptor .given .1)
 
 pub put-suffix-spec : {M : Type 1} → statement M
-put-suffix-spec =
-    tie.close (tie.spec
+put-suffix-spec = tie.close (tie.spec
     (λ c. no-room _ _ _ (let h = c .if1 .taken in omega arith))
     (λ c. search needs)
     (λ c. no-room _ _ _ (let h = c .if2 .taken in let k = c .before .if1 .left in omega arith))

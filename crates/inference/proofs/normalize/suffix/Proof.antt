@@ -33,8 +33,7 @@ returns-2 c =
     subst (λ (x : Reply). Answered x (now (e .before .before .before .args .out)) (given .give .result) (given .give .last .1 .0)) told (given .give .ensures)
 
 pub suffix-spec : {M : Type 1} → statement M
-suffix-spec =
-    tie.close (tie.spec
+suffix-spec = tie.close (tie.spec
     (λ c κs. search needs)
     (λ c. refused-by _ _ _ (not-rooted _ (refused _ _ (c .before .is-rooted .ensures) (c .if1 .taken))))
     (λ c. search needs) (λ c κs. search needs)

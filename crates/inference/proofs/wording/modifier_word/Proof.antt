@@ -4,8 +4,7 @@ use Rattle.inference.proofs.wording.modifier_word.Statement.{statement}
 use Rattle.inference.proofs.wording.modifier_word.Tie as tie
 
 pub modifier-word-spec : {M : Type 1} → statement M
-modifier-word-spec =
-    tie.close (tie.spec
+modifier-word-spec = tie.close (tie.spec
     (λ c. search needs) (λ c κs. search needs) (λ c κs. search needs) (λ c. search needs)
     (λ c. let k = c .before .before in
     rw (k .before .modifier .given .1) (c .either .ensures ∙ ap (λ (w : ℕ). cond (k .before .before .before .args .shows) w 0) (c .before .to-chord-notation .ensures)))

@@ -28,8 +28,7 @@ unfolding without
 returns-2 c = rw (sym (c .before .in-set .ensures) ∙ c .if1 .left)
 
 pub take-out-spec : {M : Type 1} → statement M
-take-out-spec =
-    tie.close (tie.spec
+take-out-spec = tie.close (tie.spec
     (λ c κs. search needs)
     (λ c. within (set c) (number c) (small c) (member c))
     (λ c. rw (bit-held (set c) (number c) (small c) (member c)) (bit-least (set c) (number c) (small c) (member c)))

@@ -31,8 +31,7 @@ module _ (free k : ℕ) (small : free < 2 ^ 32) where
   barred false m e = omega arith
 
 pub barring-spec : {M : Type 1} → statement M
-barring-spec =
-    tie.close (tie.spec
+barring-spec = tie.close (tie.spec
     (λ c κs. search needs) (λ c κs. search needs) (λ c. search needs) (λ c. search needs) (λ c. search needs)
     (λ c. let s = c .before .before .before in
     out-least (s .args .free) (s .args .next .interval) (search needs) (c .before .before .rubs .result) (c .before .in-set .result) (sym (c .before .in-set .ensures)))

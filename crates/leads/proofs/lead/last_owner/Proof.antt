@@ -53,8 +53,7 @@ returns-2 c =
     (omega arith, past-last (tonesIn (s .args .t1)) (s .args .t1 .count) (omega (arith, pool-size (s .args .t1) (s .pre))) ∙ sym (none-gone (s .args .lowest) (s .args .limit) (s .args .key) (tonesIn (s .args .t1)) none-owns))
 
 pub last-owner-spec : {M : Type 1} → statement M
-last-owner-spec =
-    tie.close (tie.spec
+last-owner-spec = tie.close (tie.spec
     Inv-loop
     μ-loop
     loop-holds

@@ -88,8 +88,7 @@ returns c =
     ∙ ap (λ (free : ℕ). Option·elim (nearest (a .wanted) (keysOfTones (a .lowest) (a .limit) (chosen free 0 tones))) 0 (λ (k : ToneKey). k .key)) (u .unbarred .ensures)
 
 pub lead-key-spec : {M : Type 1} → statement M
-lead-key-spec =
-    tie.close (tie.spec
+lead-key-spec = tie.close (tie.spec
     Inv-loop
     μ-loop
     (λ c κs. search needs) (λ c κs. search needs)

@@ -28,8 +28,7 @@ abbrev pairs : tie.After-ordered-pool → List Tone
 pairs c = tonesOf (now (c .before .before .before .args .classes)) (now (c .before .before .before .args .intervals))
 
 pub nearest-lead-spec : {M : Type 1} → statement M
-nearest-lead-spec =
-    tie.close (tie.spec
+nearest-lead-spec = tie.close (tie.spec
     (λ c κs. search needs)
     (λ c κs. is-pool (pairs c) _ (c .ordered-pool .ensures))
     (λ c κs. is-pool (pairs (c .before)) _ (c .before .ordered-pool .ensures))

@@ -62,8 +62,7 @@ returns-2 c =
     (ap (λ (n : ℕ). drop n (l .tones)) end ∙ l .inv .3 ∙ ap (λ (n : ℕ). drop n (pool .tones)) (sym end))
 
 pub remove-spec : {M : Type 1} → statement M
-remove-spec =
-    tie.close (tie.spec
+remove-spec = tie.close (tie.spec
     Inv-loop
     μ-loop
     returns

@@ -41,8 +41,7 @@ returns-2 c =
     ∙ l .inv .1
 
 pub unbarred-spec : {M : Type 1} → statement M
-unbarred-spec =
-    tie.close (tie.spec
+unbarred-spec = tie.close (tie.spec
     Inv-loop
     μ-loop
     returns

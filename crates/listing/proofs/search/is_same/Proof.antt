@@ -40,8 +40,7 @@ returns-3 c =
     sym (h .inv .2 ∙ ap (λ (n : ℕ). same (drop n a) (drop n b)) end ∙ all-compared a b (h .inv .1))
 
 pub is-same-spec : {M : Type 1} → statement M
-is-same-spec =
-    tie.close (tie.spec
+is-same-spec = tie.close (tie.spec
     Inv-loop
     μ-loop
     (λ c. sym (other-length _ _ (λ e. let no-way : ⊥ = omega arith in no-way)))

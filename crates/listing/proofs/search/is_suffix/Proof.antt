@@ -14,8 +14,7 @@ stands c =
     put-at (s .args .set) (replicate 72 0) 0 (s .pre) (omega arith) _ _ (c .put-suffix .ensures)
 
 pub is-suffix-spec : {M : Type 1} → statement M
-is-suffix-spec =
-    tie.close (tie.spec
+is-suffix-spec = tie.close (tie.spec
     (λ c. search needs) (λ c κs. search needs)
     (λ c. within (stands (c .before)))
     (λ c. counted (stands (c .before .before)))

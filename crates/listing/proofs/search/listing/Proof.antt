@@ -15,8 +15,7 @@ returns c =
     (w .0 ∙ ap (λ (l : List _). outputOf (text l) out) (sym none), w .1 ∙ ap (λ (l : List _). roomAfter (text l) out) (sym none))
 
 pub listing-spec : {M : Type 1} → statement M
-listing-spec =
-    tie.close (tie.spec
+listing-spec = tie.close (tie.spec
     returns
     (λ c. search needs) (λ c κs. search needs)
     (λ c. within (c .before .search .ensures))

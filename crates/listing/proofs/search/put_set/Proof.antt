@@ -5,8 +5,7 @@ use Rattle.listing.proofs.search.put_set.Statement.{statement}
 use Rattle.listing.proofs.search.put_set.Tie as tie
 
 pub put-set-spec : {M : Type 1} → statement M
-put-set-spec =
-    tie.close (tie.spec
+put-set-spec = tie.close (tie.spec
     (λ c. search needs) (λ c. search needs) (λ c. search needs) (λ c. search needs)
     (λ c. rw length-set (omega arith))
     (λ c. search needs) (λ c. search needs)

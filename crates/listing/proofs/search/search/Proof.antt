@@ -44,8 +44,7 @@ returns c =
     so-far-all (h .inv .0) (ap (left-of t) end) .wrote
 
 pub search-spec : {M : Type 1} → statement M
-search-spec =
-    tie.close (tie.spec
+search-spec = tie.close (tie.spec
     Inv-loop
     μ-loop
     loop-holds

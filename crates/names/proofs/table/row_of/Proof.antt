@@ -21,8 +21,7 @@ no-name n none =
 
 pub row-of-spec : {M : Type 1} → statement M
 unfolding flats noteName letterName signs bytes low packed
-row-of-spec =
-    tie.close (tie.spec
+row-of-spec = tie.close (tie.spec
     (λ c. row-tells _ 0 _ (c .match .keys1) refl refl)
     (λ c. row-tells _ 1 _ (c .match .keys2) refl refl)
     (λ c. row-tells _ 2 _ (c .match .keys3) refl refl)

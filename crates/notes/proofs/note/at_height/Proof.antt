@@ -21,8 +21,7 @@ module _ (h : ℕ) (less : h < 13) where
   result other = ap Count (toZ-ofZ fits ∙ minus-six) ∙ lowered-count h less other
 
 pub at-height-spec : {M : Type 1} → statement M
-at-height-spec =
-    tie.close (tie.spec
+at-height-spec = tie.close (tie.spec
     (λ c. rw (c .if1 .taken))
     (λ c. search needs)
     (λ c. fits _ (c .before .pre))

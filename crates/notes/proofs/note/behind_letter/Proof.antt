@@ -9,8 +9,7 @@ use Rattle.notes.proofs.note.behind_letter.Tie as tie
 
 pub behind-letter-spec : {M : Type 1} → statement M
 unfolding bytes low packed signs behindLetter
-behind-letter-spec =
-    tie.close (tie.spec
+behind-letter-spec = tie.close (tie.spec
     (λ c. (rw (c .match .keys1), lit< tt))
     (λ c. (rw (c .match .keys2), lit< tt))
     (λ c. (rw (c .match .keys3), lit< tt))

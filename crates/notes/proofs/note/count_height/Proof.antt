@@ -34,8 +34,7 @@ module _ (z : ℤ) (f : SFits w32 z) where
     cast = rw result (tt, record { fits = omega (arith, height-less z is-count) })
 
 pub count-height-spec : {M : Type 1} → statement M
-count-height-spec =
-    tie.close (tie.spec
+count-height-spec = tie.close (tie.spec
     (λ c. sym (below _ (rw (held-same _ (c .before .fits .count)) at (c .if1 .taken))))
     (λ c. sym (above _ (rw (held-same _ (c .before .before .fits .count)) at (c .if2 .taken))))
     (λ c. sum-fits _ (c .before .before .fits .count) (c .before .if1 .left) (c .if2 .left))

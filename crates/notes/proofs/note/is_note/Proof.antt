@@ -5,7 +5,6 @@ use Rattle.notes.proofs.note.is_note.Statement.{statement}
 use Rattle.notes.proofs.note.is_note.Tie as tie
 
 pub is-note-spec : {M : Type 1} → statement M
-is-note-spec =
-    tie.close (tie.spec
+is-note-spec = tie.close (tie.spec
     (λ c κs. search needs)
     (λ c. ap₂ _&&_ (leb·suc-suc (c .before .args .note .letter) 6) (ap (λ (h : ℕ). ltb h 13) (c .height .ensures) ∙ in-height _)))

@@ -12,8 +12,7 @@ returns c =
     c .spell .ensures ∙ ap (λ (p : ℕ). spelled (letterAt (a .note .letter) (a .degree)) ((p + a .semitones) % 12)) (c .before .pitch .ensures .0)
 
 pub moved-spec : {M : Type 1} → statement M
-moved-spec =
-    tie.close (tie.spec
+moved-spec = tie.close (tie.spec
     (λ c κs. search needs)
     (λ c. omega arith)
     (λ c. omega arith)

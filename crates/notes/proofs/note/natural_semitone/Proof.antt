@@ -7,7 +7,6 @@ returns-7 : tie.Need-returns-7
 returns-7 c = let last : c .before .args .letter ≡ 6 = omega arith in (rw last, omega arith)
 
 pub natural-semitone-spec : {M : Type 1} → statement M
-natural-semitone-spec =
-    tie.close (tie.spec
+natural-semitone-spec = tie.close (tie.spec
     (λ c. search needs) (λ c. search needs) (λ c. search needs) (λ c. search needs) (λ c. search needs) (λ c. search needs)
     returns-7)

@@ -10,8 +10,7 @@ returns c =
     (ap₂ (λ (n h : ℕ). (n + h + 6) % 12) (c .before .natural-semitone .ensures .0) (c .height .ensures) ∙ sounds (s .args .note) (s .pre), omega arith)
 
 pub pitch-spec : {M : Type 1} → statement M
-pitch-spec =
-    tie.close (tie.spec
+pitch-spec = tie.close (tie.spec
     (λ c κs. letter-less (c .args .note) (c .pre))
     (λ c κs. search needs)
     (λ c. omega (arith, height-is (c .before .before .args .note) (c .before .before .pre)))

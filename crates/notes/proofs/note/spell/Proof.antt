@@ -39,8 +39,7 @@ returns-3 c =
     near (n .before .args .letter) (n .before .args .pitch) _ _ (n .before .pre .1) (n .natural-semitone .ensures) (c .before .before .if1 .left) (c .before .if2 .left) (c .at-height3 .ensures)
 
 pub spell-spec : {M : Type 1} → statement M
-spell-spec =
-    tie.close (tie.spec
+spell-spec = tie.close (tie.spec
     (λ c. omega arith)
     (λ c κs. search needs)
     (λ c. omega arith)

@@ -51,8 +51,7 @@ returns c =
     sym (take-append-drop (l .i) (l .tones)) ∙ ap₂ _++_ all (l .inv .2 ∙ ap (λ (k : ℕ). drop k blanks) at-end)
 
 pub laid-spec : {M : Type 1} → statement M
-laid-spec =
-    tie.close (tie.spec
+laid-spec = tie.close (tie.spec
     Inv-loop
     μ-loop
     (λ c. (omega arith, refl, refl, refl))

@@ -27,8 +27,7 @@ laid-requires c κs =
     (omega arith, omega arith, omega arith)
 
 pub notes-pool-spec : {M : Type 1} → statement M
-notes-pool-spec =
-    tie.close (tie.spec
+notes-pool-spec = tie.close (tie.spec
     (λ c κs. search needs)
     laid-requires
     (λ c. pooled (classes (c .before)) (intervals (c .before)) _ _ (fit (c .before)) (c .laid .ensures)))

@@ -5,7 +5,6 @@ use Rattle.pool.proofs.pool.used.Statement.{statement}
 use Rattle.pool.proofs.pool.used.Tie as tie
 
 pub used-spec : {M : Type 1} → statement M
-used-spec =
-    tie.close (tie.spec
+used-spec = tie.close (tie.spec
     (λ c. sym (used-classes _ _ (let h = c .if1 .taken in omega arith)))
     (λ c. sym (used-intervals _ _ (c .if1 .left))))

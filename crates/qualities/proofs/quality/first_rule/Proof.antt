@@ -4,8 +4,7 @@ use Rattle.qualities.proofs.quality.first_rule.Statement.{statement}
 use Rattle.qualities.proofs.quality.first_rule.Tie as tie
 
 pub first-rule-spec : {M : Type 1} → statement M
-first-rule-spec =
-    tie.close (tie.spec
+first-rule-spec = tie.close (tie.spec
     (λ c. search chained depth 15)
     (λ c. search chained depth 15)
     (λ c. search chained depth 15)

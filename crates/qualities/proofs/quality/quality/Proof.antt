@@ -8,8 +8,7 @@ use Rattle.qualities.proofs.quality.quality.Tie as tie
 
 pub quality-spec : {M : Type 1} → statement M
 unfolding isSet qualityAnswer
-quality-spec =
-    tie.close (tie.spec
+quality-spec = tie.close (tie.spec
     (λ c. simp (lt-leb _ _ (c .if1 .taken)))
     (λ c κs. search needs)
     (λ c. simp (le-leb _ _ (c .before .if1 .left)) (ap Is (c .first-rule .ensures))))

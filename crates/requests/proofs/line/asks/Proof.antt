@@ -11,8 +11,7 @@ abbrev μ-loop : tie.MeasureT-loop
 μ-loop line name i₀ i = size name - i
 
 pub asks-spec : {M : Type 1} → statement M
-asks-spec =
-    tie.close (tie.spec
+asks-spec = tie.close (tie.spec
     Inv-loop
     μ-loop
     (λ c. search needs)

@@ -11,8 +11,7 @@ abbrev μ-loop : tie.MeasureT-loop
 μ-loop line from at₀ at = size line - at
 
 pub behind-digits-spec : {M : Type 1} → statement M
-behind-digits-spec =
-    tie.close (tie.spec
+behind-digits-spec = tie.close (tie.spec
     Inv-loop
     μ-loop
     (λ c. omega arith)

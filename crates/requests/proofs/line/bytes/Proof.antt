@@ -11,8 +11,7 @@ abbrev μ-loop : tie.MeasureT-loop
 μ-loop line part-number out₀ at₀ count₀ out at count = 1024 - count
 
 pub bytes-spec : {M : Type 1} → statement M
-bytes-spec =
-    tie.close (tie.spec
+bytes-spec = tie.close (tie.spec
     Inv-loop
     μ-loop
     (λ c κs. search needs)

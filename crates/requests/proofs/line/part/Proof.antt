@@ -11,8 +11,7 @@ abbrev μ-loop : tie.MeasureT-loop
 μ-loop line number at₀ left₀ at left = left
 
 pub part-spec : {M : Type 1} → statement M
-part-spec =
-    tie.close (tie.spec
+part-spec = tie.close (tie.spec
     Inv-loop
     μ-loop
     (λ c. omega arith)

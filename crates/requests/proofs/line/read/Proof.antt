@@ -11,8 +11,7 @@ abbrev μ-loop : tie.MeasureT-loop
 μ-loop line from value₀ at₀ value at = size line - at
 
 pub read-spec : {M : Type 1} → statement M
-read-spec =
-    tie.close (tie.spec
+read-spec = tie.close (tie.spec
     Inv-loop
     μ-loop
     (λ c. omega arith)

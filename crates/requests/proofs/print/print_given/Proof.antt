@@ -5,8 +5,7 @@ use Rattle.requests.proofs.print.print_given.Statement.{statement}
 use Rattle.requests.proofs.print.print_given.Tie as tie
 
 pub print-given-spec : {M : Type 1} → statement M
-print-given-spec =
-    tie.close (tie.spec
+print-given-spec = tie.close (tie.spec
     (λ c. plain (c .before .args .given) (search needs) (c .if1 .taken))
     (λ c κs. search needs) (λ c. search needs)
     (λ c. omega arith)

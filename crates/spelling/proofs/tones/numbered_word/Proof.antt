@@ -32,8 +32,7 @@ tone-word-requires c κs =
     (i .before .before .before .pre, rw (c .before .st .ensures, c .numeric .ensures, d .degree .ensures) (interval-moves spelledBy (i .interval .given .0 .0)))
 
 pub numbered-word-spec : {M : Type 1} → statement M
-numbered-word-spec =
-    tie.close (tie.spec
+numbered-word-spec = tie.close (tie.spec
     (λ c κs. search needs) (λ c. search needs) (λ c κs. search needs) (λ c κs. search needs) (λ c κs. search needs)
     tone-word-requires
     (λ c. search needs)

@@ -24,8 +24,7 @@ loop-again c =
     (puts spelledBy _ _ _ _ _ _ inv some _ _ (space .put .ensures) (space .put .kept .0) _ _ _ (name .before .numbered-word .ensures) (name .put2 .ensures) (name .put2 .kept .0))
 
 pub put-tones-spec : {M : Type 1} → statement M
-put-tones-spec =
-    tie.close (tie.spec
+put-tones-spec = tie.close (tie.spec
     Inv-loop
     μ-loop
     (λ c. begin spelledBy _ _ _ (c .before .pre .1) (c .before .pre .2))

@@ -30,8 +30,7 @@ returns-2 c =
     absurd (let bottom : ⊥ = omega arith in bottom)
 
 pub tone-word-spec : {M : Type 1} → statement M
-tone-word-spec =
-    tie.close (tie.spec
+tone-word-spec = tie.close (tie.spec
     (λ c κs. search needs) (λ c. search needs) (λ c κs. search needs) (λ c. search needs)
     returns
     returns-2)

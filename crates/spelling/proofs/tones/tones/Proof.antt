@@ -45,8 +45,7 @@ returns-3 c =
     refused-by _ _ _ (by-the-note spelledBy (s .args .root) (s .args .set) (is-rooted (n .before)) (Refused (w .why .given .0 .0)) (sym (n .class-note .ensures) ∙ w .why .given .1))
 
 pub tones-spec : {M : Type 1} → statement M
-tones-spec =
-    tie.close (tie.spec
+tones-spec = tie.close (tie.spec
     (λ c κs. search needs)
     (λ c. refused-by _ _ _ (not-rooted spelledBy _ _ (refused _ _ (c .before .is-rooted .ensures) (c .if1 .taken))))
     (λ c κs. search needs) (λ c. search needs)

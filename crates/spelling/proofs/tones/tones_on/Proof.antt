@@ -54,8 +54,7 @@ returns c =
     subst (λ (t : List ℕ). Answered (text t) (now (s .args .out)) (g .give .result) (g .give .last .1 .0)) row (g .give .ensures)
 
 pub tones-on-spec : {M : Type 1} → statement M
-tones-on-spec =
-    tie.close (tie.spec
+tones-on-spec = tie.close (tie.spec
     (λ c. search needs) (λ c κs. search needs)
     put-tones-requires
     (λ c. counts (c .before) .0)

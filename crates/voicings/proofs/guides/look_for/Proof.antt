@@ -51,8 +51,7 @@ returns c =
     (all 6144 (pool .tones) (pool .count) (l .i) (l .sixth) (l .inv .1) (l .inv .0) (c .loop-test .left), all 8192 (pool .tones) (pool .count) (l .i) (l .seventh) (l .inv .2) (l .inv .0) (c .loop-test .left))
 
 pub look-for-spec : {M : Type 1} → statement M
-look-for-spec =
-    tie.close (tie.spec
+look-for-spec = tie.close (tie.spec
     Inv-loop
     μ-loop
     (λ c. (omega arith, refl, refl))

@@ -72,8 +72,7 @@ returns c =
     (stored (a .led .key ∷ []) (t .put-placed2 .last .0) (t .put-placed2 .result) (omega (arith, within c)))
 
 pub put-above-spec : {M : Type 1} → statement M
-put-above-spec =
-    tie.close (tie.spec
+put-above-spec = tie.close (tie.spec
     (λ c κs. search needs) (λ c κs. search needs)
     (λ c κs. let s = c .before .before .before .before .before in (s .pre .0, omega (arith, s .pre .1)))
     (λ c κs. search needs)

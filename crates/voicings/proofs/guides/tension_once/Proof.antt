@@ -28,8 +28,7 @@ sum false false true false = refl
 sum false false false b = refl
 
 pub tension-once-spec : {M : Type 1} → statement M
-tension-once-spec =
-    tie.close (tie.spec
+tension-once-spec = tie.close (tie.spec
     (λ c. search needs) (λ c. search needs) (λ c. search needs) (λ c. search needs) (λ c. search needs) (λ c. search needs) (λ c. search needs)
     (λ c. search needs) (λ c. search needs) (λ c. search needs) (λ c. search needs) (λ c. search needs)
     (λ c. sum (ltb (c .args .count) 6) (ltb (c .args .count) 3) (c .args .sixth) (c .args .seventh)))

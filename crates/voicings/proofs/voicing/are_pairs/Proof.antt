@@ -56,8 +56,7 @@ returns-3 c =
     ∙ l .inv .1
 
 pub are-pairs-spec : {M : Type 1} → statement M
-are-pairs-spec =
-    tie.close (tie.spec
+are-pairs-spec = tie.close (tie.spec
     Inv-loop
     μ-loop
     (λ c. (omega arith, refl))

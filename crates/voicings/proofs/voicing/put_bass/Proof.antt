@@ -29,8 +29,7 @@ returns-2 c =
     rw (c .before .bass .given .1) (two _ _ _ (c .before .before .before .pre .2))
 
 pub put-bass-spec : {M : Type 1} → statement M
-put-bass-spec =
-    tie.close (tie.spec
+put-bass-spec = tie.close (tie.spec
     (λ c. search needs) (λ c. search needs) (λ c. search needs) (λ c. search needs) (λ c. search needs)
     (λ c. omega (arith, class c))
     (λ c. omega (arith, class c))

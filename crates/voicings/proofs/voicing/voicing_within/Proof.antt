@@ -136,8 +136,7 @@ returns-4 c =
     subst (λ (x : Reply). Answered x (now (s .args .out)) (g .give .result) (g .give .last .1 .0)) reply (g .give .ensures)
 
 pub voicing-within-spec : {M : Type 1} → statement M
-voicing-within-spec =
-    tie.close (tie.spec
+voicing-within-spec = tie.close (tie.spec
     (λ c κs. search needs)
     returns
     (λ c κs. search needs)

@@ -8,8 +8,7 @@ use Rattle.intervals.proofs.interval.Interval.about.Tie as tie
 
 pub about-spec : {M : Type 1} → statement M
 unfolding bytes low packed
-about-spec =
-    tie.close (tie.spec
+about-spec = tie.close (tie.spec
     (λ c. search needs) (λ c. search needs) (λ c. search needs) (λ c. search needs) (λ c. search needs) (λ c. search needs) (λ c. search needs)
     (λ c. search needs) (λ c. search needs) (λ c. search needs) (λ c. search needs) (λ c. search needs) (λ c. search needs) (λ c. search needs)
     (λ c. search needs) (λ c. search needs) (λ c. search needs) (λ c. search needs) (λ c. search needs) (λ c. search needs) (λ c. search needs)

@@ -7,8 +7,7 @@ use Rattle.intervals.proofs.interval.Interval.from_number.Tie as tie
 
 pub from-number-spec : {M : Type 1} → statement M
 unfolding intervals nth numbered
-from-number-spec =
-    tie.close (tie.spec
+from-number-spec = tie.close (tie.spec
     (λ c. rw (c .match .keys1))
     (λ c. rw (c .match .keys2))
     (λ c. rw (c .match .keys3))

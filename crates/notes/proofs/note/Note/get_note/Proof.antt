@@ -33,8 +33,7 @@ returns-5 c =
 
 pub get-note-spec : {M : Type 1} → statement M
 unfolding getNoteAnswer
-get-note-spec =
-    tie.close (tie.spec
+get-note-spec = tie.close (tie.spec
     (λ c κs. search needs)
     (λ c. rw (refused _ _ (c .before .is-note .ensures) (c .if1 .taken)))
     (λ c. simp (admitted _ _ (c .before .before .is-note .ensures) (c .before .if1 .left), lt-leb _ _ (c .if2 .taken)))

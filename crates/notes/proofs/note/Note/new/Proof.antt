@@ -19,8 +19,7 @@ other-bits (pos n) no-way = not-T (eqb n 0) (λ t. no-way (eqb→eq n 0 t))
 other-bits (negsuc n) no-way = tt
 
 pub new-spec : {M : Type 1} → statement M
-new-spec =
-    tie.close (tie.spec
+new-spec = tie.close (tie.spec
     (λ c. ap (noteOf (c .before .args .letter)) (sym (zero-bits _ (c .before .fits .count) (c .if1 .taken))))
     (λ c. ap (λ (a : Accidental). record { letter = c .before .args .letter; accidental = a })
     (ap Count (toZ-ofZ (c .before .fits .count)) ∙ nonzero-count _ (other-bits _ (c .if1 .left)))))

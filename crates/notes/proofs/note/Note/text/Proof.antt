@@ -31,8 +31,7 @@ returns-2 c =
 
 pub text-spec : {M : Type 1} → statement M
 unfolding noteReply
-text-spec =
-    tie.close (tie.spec
+text-spec = tie.close (tie.spec
     (λ c κs. search needs)
     (λ c. rw (refused _ _ (c .before .is-note .ensures) (c .if1 .taken)) (no _ _))
     (λ c. search needs) (λ c κs. search needs) (λ c κs. search needs)

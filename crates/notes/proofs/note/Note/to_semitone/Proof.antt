@@ -8,8 +8,7 @@ use Rattle.notes.proofs.note.Note.to_semitone.Tie as tie
 
 pub to-semitone-spec : {M : Type 1} → statement M
 unfolding semitoneAnswer
-to-semitone-spec =
-    tie.close (tie.spec
+to-semitone-spec = tie.close (tie.spec
     (λ c κs. search needs)
     (λ c. rw (refused _ _ (c .before .is-note .ensures) (c .if1 .taken)))
     (λ c κs. admitted _ _ (c .before .is-note .ensures) (c .if1 .left))

@@ -24,8 +24,7 @@ returns-2 c =
     ∙ sym (packed-cons (letterName (a .letter)) (signs (countOf (a .accidental)))))
 
 pub to-word-spec : {M : Type 1} → statement M
-to-word-spec =
-    tie.close (tie.spec
+to-word-spec = tie.close (tie.spec
     (λ c κs. search needs)
     (λ c. rw (refused _ _ (c .before .is-note .ensures) (c .if1 .taken)))
     (λ c κs. letter-less (c .before .before .args .self) (admitted _ _ (c .before .is-note .ensures) (c .if1 .left)))

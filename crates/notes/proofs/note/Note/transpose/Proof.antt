@@ -35,8 +35,7 @@ returns-4 c =
 
 pub transpose-spec : {M : Type 1} → statement M
 unfolding transposeAnswer
-transpose-spec =
-    tie.close (tie.spec
+transpose-spec = tie.close (tie.spec
     (λ c κs. search needs)
     (λ c. rw (refused _ _ (c .before .is-note .ensures) (c .if1 .taken)))
     (λ c κs. search needs)

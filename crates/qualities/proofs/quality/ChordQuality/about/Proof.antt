@@ -6,8 +6,7 @@ use Rattle.qualities.proofs.quality.ChordQuality.about.Statement.{state
 use Rattle.qualities.proofs.quality.ChordQuality.about.Tie as tie
 
 pub about-spec : {M : Type 1} → statement M
-about-spec =
-    tie.close (tie.spec
+about-spec = tie.close (tie.spec
     (λ c. search needs) (λ c. search needs) (λ c. search needs) (λ c. search needs) (λ c. search needs) (λ c. search needs) (λ c. search needs)
     (λ c. search needs) (λ c. search needs) (λ c. search needs) (λ c. search needs) (λ c. search needs) (λ c. search needs)
     (λ c. kept _ Maj (c .enum-told .given .1))
