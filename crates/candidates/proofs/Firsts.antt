@@ -3,7 +3,6 @@
 --     found-few       at most twelve are found
 --     room            a class that has not occurred has a place among twelve
 --     found-old, found-new     a key whose class has occurred, and one whose class has not
---     bit-held        the bit of a key's class, as the code shifts it
 use Rattle.answer.proofs.Kit.{_≡_, refl, sym, ap, subst, _∙_, true, false, List, [], _∷_, _++_, ℕ, _+_, _*_, _%_, _^_, _<_, _≤_, one-mul, add-one, arith, lit<, length, take, getD, set, length-append, shl-exact, take-suc, take-suc-set}
 use Rattle.intervals.specs.Sets.{has, isIn}
 use Rattle.candidates.specs.Keys.{keyClass, setBelow, setWhere, classSet, newBehind, firsts}
@@ -60,6 +59,3 @@ module _ (keys order : List ℕ) (i s count : ℕ) (inside : i < length keys) (f
               ∙ ap (λ (l : List ℕ). l ++ (keyClass key ∷ [])) (f .classes) ∙ sym (firsts-new key (take i keys) not-there);
           size = longer;
         }
-
-pub bit-held : (key : ℕ) → 1 * 2 ^ keyClass key % 2 ^ 32 ≡ 2 ^ keyClass key
-bit-held key = shl-exact {a = 1} 1 (keyClass key) 32 (lit< tt) (omega arith) ∙ one-mul (2 ^ keyClass key)

@@ -6,6 +6,7 @@
 use Rattle.answer.proofs.Kit.{_≡_, refl, sym, ap, subst, _∙_, Bool, true, cond, _&&_, List, [], _∷_, ⊎-elim, ℕ, zero, suc, _*_, _/_, _%_, _-_, _^_, _≤_, _<_, arith, pow-suc, div-div-eq-div-mul, div-one, eq-or-lt-of-le, not-suc-le-zero, le-of-suc-le-suc, mod-eq-of-lt, one-mul, trailingZeros, under, T, eqb, eqb→eq, length, pow-pos, eq-eqb, ne-eqb}
 use Rattle.answer.proofs.Tests.{left, right}
 use Rattle.intervals.specs.Sets.{has}
+use Rattle.intervals.proofs.Width.{bit-held}
 use Rattle.intervals.specs.Intervals.{intervals, nth, numbered, numberOf}
 use Rattle.intervals.specs.declared.interval.Interval.{Interval}
 use Rattle.intervals.specs.declared.interval.MaybeInterval.the-variants.{Is}
@@ -112,7 +113,7 @@ module _ (left : ℕ) (some : left ≡ 0 → ⊥) (small : left < 2 ^ 23) where
   number-small = omega (arith, lowest-of .within)
 
   pub bit : (1 * 2 ^ trailingZeros 32 left) % 2 ^ 32 ≡ 2 ^ trailingZeros 32 left
-  bit = ap (λ (x : ℕ). x % 2 ^ 32) (one-mul (2 ^ trailingZeros 32 left)) ∙ mod-eq-of-lt (omega (arith, lowest-of .bit))
+  bit = bit-held (trailingZeros 32 left) number-small
 
   pub bit-within : (1 * 2 ^ trailingZeros 32 left) % 2 ^ 32 ≤ left
   bit-within = rw bit (lowest-of .bit)

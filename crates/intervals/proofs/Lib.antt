@@ -4,3 +4,4 @@ pub mod Masked
 pub mod Counted
 pub mod Rooted
 pub mod Determined
+pub mod Width

@@ -8,6 +8,7 @@
 --     joined-has      and that class beside its own
 --     with-held, with-fresh, with-has, with-less     the same of a class that it may have had
 --     bits-has        a number is in the set of a list where it is in the list
+--     bit-least       a class that a set has is worth no more than it
 --     taken-has       a set with a class taken out that it had: it has the others
 use Rattle.answer.proofs.Kit.{_≡_, refl, sym, ap, ap₂, subst, _∙_, Bool, true, false, not, cond, _&&_, _||_, and-true, List, [], _∷_, ℕ, zero, suc, _+_, _-_, _*_, _/_, _%_, _^_, _<_, _≤_, max, div-add-mod', mod-lt, max-le, max-zero, max-eq-right, add-mul, one-mul, zero-add, suc-add, add-sub-of-le, div-self, div-eq-of-lt, mul-div-cancel-left, mul-mod-left, pow-suc, add-div-right, zero-div, decLe, one-add, arith, bitAnd, bitOr, and-block, and-mask, and-zero-r, or-disjoint, or-lt, or-shr, or-step, ones, ones-step, ones-cat, eqb, pow-pos, pow-lt, pow-add, eqb-true, eqb-false, eq-eqb, ne-eqb}
 use Rattle.intervals.specs.Sets.{has, withMember, bits, isIn}
@@ -29,8 +30,8 @@ unfolding has
 missing s c e = ne-eqb (s / 2 ^ c % 2) 1 (let other : s / 2 ^ c % 2 ≡ 1 → ⊥ = omega arith in other)
 
 -- a set by the digits from a class up and those below it
-whole : (s c : ℕ) → s ≡ s / 2 ^ c * 2 ^ c + s % 2 ^ c
-whole s c = sym (div-add-mod' s (2 ^ c))
+parted : (s c : ℕ) → s ≡ s / 2 ^ c * 2 ^ c + s % 2 ^ c
+parted s c = sym (div-add-mod' s (2 ^ c))
 
 rest-less : (s c : ℕ) → s % 2 ^ c < 2 ^ c
 rest-less s c = mod-lt s (pow-pos c)
@@ -42,7 +43,7 @@ only b c = cond b (2 ^ c) 0
 pub alone : (s c : ℕ) → bitAnd s (2 ^ c) ≡ only (has s c) c
 alone s c =
     let one : 2 ^ c ≡ 1 * 2 ^ c + 0 = omega arith in
-    ap₂ bitAnd (whole s c) one ∙ and-block c (s / 2 ^ c) 1 (s % 2 ^ c) 0 (rest-less s c) (pow-pos c)
+    ap₂ bitAnd (parted s c) one ∙ and-block c (s / 2 ^ c) 1 (s % 2 ^ c) 0 (rest-less s c) (pow-pos c)
     ∙ ap₂ (λ (x y : ℕ). x * 2 ^ c + y) (and-mask (s / 2 ^ c) 1) (and-zero-r (s % 2 ^ c)) ∙ by-case (has s c) refl
   where
     by-case : (b : Bool) → has s c ≡ b → s / 2 ^ c % 2 * 2 ^ c + 0 ≡ only b c
@@ -73,10 +74,10 @@ module _ (s c : ℕ) (no-class : has s c ≡ false) where
 
   pub joined-ones : ones (s + 2 ^ c) ≡ suc (ones s)
   joined-ones =
-      let more : s + 2 ^ c ≡ (s / 2 ^ c + 1) * 2 ^ c + s % 2 ^ c = ap (λ (x : ℕ). x + 2 ^ c) (whole s c) ∙ rw (add-mul, one-mul) (omega arith) in
+      let more : s + 2 ^ c ≡ (s / 2 ^ c + 1) * 2 ^ c + s % 2 ^ c = ap (λ (x : ℕ). x + 2 ^ c) (parted s c) ∙ rw (add-mul, one-mul) (omega arith) in
       ap ones more ∙ ones-cat c (s / 2 ^ c + 1) (s % 2 ^ c) (rest-less s c)
       ∙ ap (λ (x : ℕ). x + ones (s % 2 ^ c)) next-ones
-      ∙ suc-add (ones (s / 2 ^ c)) (ones (s % 2 ^ c)) ∙ ap suc (sym (ap ones (whole s c) ∙ ones-cat c (s / 2 ^ c) (s % 2 ^ c) (rest-less s c)))
+      ∙ suc-add (ones (s / 2 ^ c)) (ones (s % 2 ^ c)) ∙ ap suc (sym (ap ones (parted s c) ∙ ones-cat c (s / 2 ^ c) (s % 2 ^ c) (rest-less s c)))
 
 -- the digit of a bitwise or
 pub or-digit : (a b : ℕ) → bitOr a b % 2 ≡ max (a % 2) (b % 2)
@@ -154,8 +155,8 @@ bits-has (j ∷ more) k = with-has j (bits more) k ∙ ap (_||_ (eqb k j)) (bits
 
 -- a set with a class taken out: its digit there is the one that goes, and the class put back makes the set
 module _ (s c : ℕ) (class : has s c ≡ true) where
-  some : 2 ^ c ≤ s
-  some =
+  pub bit-least : 2 ^ c ≤ s
+  bit-least =
       let odd = held s c class in
       by-order odd (decLe (2 ^ c) s)
     where
@@ -164,7 +165,7 @@ module _ (s c : ℕ) (class : has s c ≡ true) where
       by-order odd (no h) = let less : s < 2 ^ c = omega arith in absurd (let no-way : ⊥ = omega (arith, odd, div-eq-of-lt less) in no-way)
 
   put-back : s - 2 ^ c + 2 ^ c ≡ s
-  put-back = omega (arith, some)
+  put-back = omega (arith, bit-least)
 
   gone : has (s - 2 ^ c) c ≡ false
   unfolding has
@@ -176,9 +177,9 @@ module _ (s c : ℕ) (class : has s c ≡ true) where
   pub taken-has : (k : ℕ) → has (s - 2 ^ c) k ≡ has s k && not (eqb k c)
   taken-has k = by-case (eqb k c) refl
     where
-      whole : has s k ≡ eqb k c || has (s - 2 ^ c) k
-      whole = ap (λ (x : ℕ). has x k) (sym put-back) ∙ joined-has (s - 2 ^ c) c gone k
+      with-it : has s k ≡ eqb k c || has (s - 2 ^ c) k
+      with-it = ap (λ (x : ℕ). has x k) (sym put-back) ∙ joined-has (s - 2 ^ c) c gone k
 
       by-case : (b : Bool) → eqb k c ≡ b → has (s - 2 ^ c) k ≡ has s k && not b
-      by-case true e = ap (has (s - 2 ^ c)) (eqb-true k c e) ∙ gone ∙ sym (rw (whole, e))
-      by-case false e = sym (rw (whole, e) (and-true (has (s - 2 ^ c) k)))
+      by-case true e = ap (has (s - 2 ^ c)) (eqb-true k c e) ∙ gone ∙ sym (rw (with-it, e))
+      by-case false e = sym (rw (with-it, e) (and-true (has (s - 2 ^ c) k)))

@@ -1,5 +1,5 @@
 -- Laws of the table of intervals.
---     told          the row of an interval tells of it
+--     row-tells     the row of an interval tells of it
 --     past          a number past the last interval names none
 --     at-interval   a test that passes at each interval passes at one
 --     numbered-back, numbered-none, number-small, set-small     an interval's number names it, is below 23, and so a set of intervals below 2 ^ 23
@@ -21,8 +21,8 @@ use Rattle.intervals.proofs.Members.{with-less}
 abbrev pub rowFor : Interval → About
 rowFor i = record { 0 = numberOf i; 1 = semitonesOf i; 2 = degreeOf i; 3 = toDegreeOf i; 4 = packed (notationOf i) }
 
-pub told : (i k : Interval) → i ≡ k → Tells i (rowFor k)
-told i k e =
+pub row-tells : (i k : Interval) → i ≡ k → Tells i (rowFor k)
+row-tells i k e =
     record {
       number = ap numberOf (sym e);
       semitones = ap semitonesOf (sym e);

@@ -11,7 +11,7 @@ use Rattle.pool.specs.declared.pool.Tone.{Tone}
 use Rattle.keys.specs.declared.nearest.Offer.{Offer}
 use Rattle.keys.specs.Choice.{without, chosen}
 use Rattle.keys.specs.private.Ranked.{nearestOf}
-use Rattle.keys.proofs.Digit.{within}
+use Rattle.intervals.proofs.Width.{within}
 use Rattle.keys.proofs.Best.{near-interval, others}
 
 pub without-has : (c s k : ℕ) → has (without c s) k ≡ has s k && not (eqb k c)

@@ -1,4 +1,3 @@
-pub mod Digit
 pub mod Winner
 pub mod Climb
 pub mod Best

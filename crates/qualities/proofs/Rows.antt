@@ -1,5 +1,5 @@
 -- Laws of the table of qualities.
---     kept          the row of a quality tells of it
+--     row-tells     the row of a quality tells of it
 use Rattle.answer.proofs.Kit.{_≡_, sym, ap}
 use Rattle.qualities.specs.Qualities.{qualityNumber}
 use Rattle.qualities.specs.Masks.{ownBits, alterationBits, extensionBits, stackBits}
@@ -11,8 +11,8 @@ use Rattle.qualities.specs.declared.quality.ChordQuality.{ChordQuality}
 abbrev rowKept : ChordQuality → quality.About
 rowKept q = record { 0 = qualityNumber q; 1 = ownBits q; 2 = alterationBits q; 3 = extensionBits q; 4 = stackBits q }
 
-pub kept : (q k : ChordQuality) → q ≡ k → Tells q (rowKept k)
-kept q k e =
+pub row-tells : (q k : ChordQuality) → q ≡ k → Tells q (rowKept k)
+row-tells q k e =
     record {
       number = ap qualityNumber (sym e);
       own = ap ownBits (sym e);

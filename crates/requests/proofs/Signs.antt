@@ -28,24 +28,24 @@ between (pos n) low high = absurd (said false (sym low ∙ le-leb 0 n (omega ari
 between (negsuc n) low high = let less = ltb→lt n 9223372036854775807 (said _ high) in (record { sfits = omega arith }, (tt, record { fits = omega arith }))
 
 module _ (z : ℤ) (f : SFits w64 z) where
-  back : held z ≡ z
-  back = toZ-ofZ f
+  held-is : held z ≡ z
+  held-is = toZ-ofZ f
 
   pub plain : leZ (pos 0) (held z) ≡ true → Plain (held z)
-  plain h = rw back (not-below z f (rw back at h))
+  plain h = rw held-is (not-below z f (rw held-is at h))
 
   module _ (low : leZ (pos 0) (held z) ≡ false) (high : ltZ lowest (held z) ≡ true) where
     minus : pos 0 -ℤ held z ≡ negℤ z
-    minus = ap (λ (x : ℤ). pos 0 -ℤ x) back ∙ +ℤ-idl (negℤ z)
+    minus = ap (λ (x : ℤ). pos 0 -ℤ x) held-is ∙ +ℤ-idl (negℤ z)
 
-    told : SFits w64 (negℤ z) × Plain (negℤ z)
-    told = between z (rw back at low) (rw back at high)
+    negated : SFits w64 (negℤ z) × Plain (negℤ z)
+    negated = between z (rw held-is at low) (rw held-is at high)
 
     pub minus-fits : SFits w64 (pos 0 -ℤ held z)
-    minus-fits = rw minus (told .0)
+    minus-fits = rw minus (negated .0)
 
     pub minus-plain : Plain (held (pos 0 -ℤ held z))
-    minus-plain = rw (toZ-ofZ minus-fits ∙ minus) (told .1)
+    minus-plain = rw (toZ-ofZ minus-fits ∙ minus) (negated .1)
 
 pub small-minus : (n : ℕ) → n < 1000 → SFits w32 (pos 0 -ℤ toZ w32 n)
 small-minus n h = rw (lt-ltb n (2 ^ 31) (omega arith)) (rw (+ℤ-idl (negℤ (pos n))) (fits n h))

@@ -15,10 +15,10 @@ module _ (b : tie.Start) where
   small : set < 4096
   small = let h = rooted-small set (b .pre .0) in omega arith
 
-  told : (r : ℕ) → r ≡ withThirdFrom set (b .args .intervals) → r ≡ withThird set
-  told r e = e ∙ ap (withThirdFrom set) (b .pre .1) ∙ with-third set (b .pre .0)
+  with-third-told : (r : ℕ) → r ≡ withThirdFrom set (b .args .intervals) → r ≡ withThird set
+  with-third-told r e = e ∙ ap (withThirdFrom set) (b .pre .1) ∙ with-third set (b .pre .0)
 
 pub with-third-spec : {M : Type 1} → statement M
 with-third-spec = tie.close (tie.spec
-    (λ c. (told (c .before) _ (search yes), or-lt 12 _ _ (small (c .before)) (omega arith)))
-    (λ c. (told (c .before) _ (search no-then), small (c .before))))
+    (λ c. (with-third-told (c .before) _ (search yes), or-lt 12 _ _ (small (c .before)) (omega arith)))
+    (λ c. (with-third-told (c .before) _ (search no-then), small (c .before))))

@@ -31,8 +31,8 @@ lastly c = worded (prefixText (c .add-where2 .result)) (intervalsIn (described c
 abbrev omitted : tie.After-add-where2 → List (List ℕ)
 omitted c = worded (bytes "omit") (intervalsIn (described c .omits))
 
-whole : (c : tie.After-add-where2) → altered c ++ added c ++ lastly c ++ omitted c ≡ partsOf (described c)
-whole c =
+four-lists : (c : tie.After-add-where2) → altered c ++ added c ++ lastly c ++ omitted c ≡ partsOf (described c)
+four-lists c =
     ap (λ (x : List (List ℕ)). x ++ omitted c) (append-assoc (altered c) (added c) (lastly c))
     ∙ ap₂
     (λ (first then : Prefix). altered c
@@ -69,7 +69,7 @@ first-room c κs =
       entered b .pre .0 .alterations,
       le-refl _,
       fits (no-parts (now (entered b .args .buffer)) (entered b .args .start)) (altered b) (added b ++ lastly b ++ omitted b) _
-          (simp append-assoc (simp append-assoc at (whole b))) (entered b .pre .1),
+          (simp append-assoc (simp append-assoc at (four-lists b))) (entered b .pre .1),
     )
 
 second-room : tie.Need-put-parts-requires-2
@@ -78,7 +78,7 @@ second-room c κs =
     let b = p .before .before in (
       xor-lt 23 _ _ (entered b .pre .0 .adds) (entered b .pre .0 .nine),
       starts-before (one p),
-      fits (one p) (added b) (lastly b ++ omitted b) _ (simp append-assoc (simp append-assoc at (whole b))) (entered b .pre .1),
+      fits (one p) (added b) (lastly b ++ omitted b) _ (simp append-assoc (simp append-assoc at (four-lists b))) (entered b .pre .1),
     )
 
 third-room : tie.Need-put-parts-requires-3
@@ -87,7 +87,7 @@ third-room c κs =
     let b = before-two p .before .before in (
       entered b .pre .0 .third,
       starts-before (two p),
-      fits (two p) (lastly b) (omitted b) _ (whole b) (entered b .pre .1),
+      fits (two p) (lastly b) (omitted b) _ (four-lists b) (entered b .pre .1),
     )
 
 fourth-room : tie.Need-put-parts-requires-4
@@ -96,7 +96,7 @@ fourth-room c κs =
     let b = before-two (before-three p) .before .before in (
       entered b .pre .0 .omits,
       starts-before (three p),
-      fits (three p) (omitted b) [] _ (append-nil _ ∙ whole b) (entered b .pre .1),
+      fits (three p) (omitted b) [] _ (append-nil _ ∙ four-lists b) (entered b .pre .1),
     )
 
 returns : tie.Need-returns
@@ -106,7 +106,7 @@ returns c =
     let q = p .before .before .before .before in
     let b = before-two (before-three q) .before .before in
     let a = entered b .args in
-    let told = whole b in
+    let told = four-lists b in
     let four = then-parts (three q) (omitted b) (p .put-parts4 .ensures) (p .put-parts4 .kept .0) in
     subst (λ (x : List (List ℕ)). Writes (now (a .buffer)) (a .start) (parenthesized x) (put .put .result) (put .put .last .0)) told
     (closed four _ _ _ (put .before .either .ensures)

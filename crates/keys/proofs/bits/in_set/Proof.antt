@@ -1,7 +1,7 @@
 -- `keys::bits::in_set` meets its contract: a number past 31 is in no set of 32 bits.
 use Rattle.answer.proofs.Kit.{sym, needs}
 use Rattle.intervals.specs.Sets.{has}
-use Rattle.keys.proofs.Digit.{past}
+use Rattle.intervals.proofs.Width.{past}
 use Rattle.keys.proofs.bits.in_set.Statement.{statement}
 use Rattle.keys.proofs.bits.in_set.Tie as tie
 

@@ -2,7 +2,8 @@
 use Rattle.answer.proofs.Kit.{_≡_, sym, _∙_, true, ℕ, _^_, _<_, needs}
 use Rattle.intervals.specs.Sets.{has}
 use Rattle.keys.specs.Choice.{without}
-use Rattle.keys.proofs.Digit.{within, bit-held, bit-least}
+use Rattle.intervals.proofs.Members.{bit-least}
+use Rattle.intervals.proofs.Width.{within, bit-held}
 use Rattle.keys.proofs.bits.take_out.Statement.{statement}
 use Rattle.keys.proofs.bits.take_out.Tie as tie
 
@@ -21,7 +22,7 @@ module _ (c : tie.Then1) where
 
 returns : tie.Need-returns
 unfolding without
-returns c = rw (bit-held (set c) (number c) (small c) (member c), member c)
+returns c = rw (bit-held (number c) (within (set c) (number c) (small c) (member c)), member c)
 
 returns-2 : tie.Need-returns-2
 unfolding without
@@ -31,6 +32,6 @@ pub take-out-spec : {M : Type 1} → statement M
 take-out-spec = tie.close (tie.spec
     (λ c κs. search needs)
     (λ c. within (set c) (number c) (small c) (member c))
-    (λ c. rw (bit-held (set c) (number c) (small c) (member c)) (bit-least (set c) (number c) (small c) (member c)))
+    (λ c. rw (bit-held (number c) (within (set c) (number c) (small c) (member c))) (bit-least (set c) (number c) (member c)))
     returns
     returns-2)

@@ -4,7 +4,8 @@ use mir.Val.{boolByte}
 use Rattle.intervals.specs.Sets.{has}
 use Rattle.keys.specs.Choice.{without}
 use Rattle.leads.specs.Lead.{rubs}
-use Rattle.keys.proofs.Digit.{within, bit-held, bit-least}
+use Rattle.intervals.proofs.Members.{bit-least}
+use Rattle.intervals.proofs.Width.{within, bit-held}
 use Rattle.leads.proofs.lead.barring.Statement.{statement}
 use Rattle.leads.proofs.lead.barring.Tie as tie
 
@@ -14,13 +15,13 @@ bitOut b k = boolByte b % 2 * 2 ^ (k % 32) % 2 ^ 32
 
 module _ (free k : ℕ) (small : free < 2 ^ 32) where
   shifted : has free k ≡ true → bitOut true k ≡ 2 ^ k
-  shifted member = ap (λ (j : ℕ). 1 * 2 ^ j % 2 ^ 32) (mod-eq-of-lt (within free k small member)) ∙ bit-held free k small member
+  shifted member = ap (λ (j : ℕ). 1 * 2 ^ j % 2 ^ 32) (mod-eq-of-lt (within free k small member)) ∙ bit-held k (within free k small member)
 
   nothing-out : bitOut false k ≡ 0
   nothing-out = omega arith
 
   out-least : (b : Bool) → (m : Bool) → has free k ≡ m → bitOut (b && m) k ≤ free
-  out-least true true e = rw (shifted e) (bit-least free k small e)
+  out-least true true e = rw (shifted e) (bit-least free k e)
   out-least true false e = omega arith
   out-least false m e = omega arith
 
