@@ -8,7 +8,7 @@
 #include "made.h"
 #include "run.h"
 
-enum { STACK = 1 << 14, PAINT = 0xA7, MOST_ALLOWED = 1 << 13 };
+enum { STACK = 1 << 14, PAINT = 0xA7, MOST_ALLOWED = 1 << 12 };
 
 static uint8_t *stack; /* behind a page that faults */
 static ucontext_t outside, inside;
