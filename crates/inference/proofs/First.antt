@@ -3,7 +3,7 @@
 --     first-of   the count of zeros below the lowest bit finds it
 --     lowest-of, number-small, bit, bit-within, less      a turn of a loop that takes it: its number, its bit as the code has it (a 1,
 --                shifted), and what is left once it is taken
-use Rattle.answer.proofs.Kit.{_≡_, refl, sym, ap, subst, _∙_, Bool, true, cond, _&&_, List, [], _∷_, ⊎-elim, ℕ, zero, suc, _*_, _/_, _%_, _-_, _^_, _≤_, _<_, arith, pow-suc, div-div-eq-div-mul, div-one, eq-or-lt-of-le, not-suc-le-zero, le-of-suc-le-suc, mod-eq-of-lt, one-mul, trailingZeros, under, T, eqb, eqb→eq, length, pow-pos, eq-eqb, ne-eqb}
+use Rattle.answer.proofs.Kit.{_≡_, refl, sym, ap, subst, _∙_, Bool, true, cond, _&&_, List, [], _∷_, ⊎-elim, ℕ, zero, suc, _*_, _/_, _%_, _-_, _^_, _≤_, _<_, arith, pow-suc, div-div-eq-div-mul, div-one, eq-or-lt-of-le, not-suc-le-zero, le-of-suc-le-suc, trailingZeros, under, T, eqb, eqb→eq, length, pow-pos, eq-eqb, ne-eqb}
 use Rattle.answer.proofs.Tests.{left, right}
 use Rattle.intervals.specs.Sets.{has}
 use Rattle.intervals.proofs.Width.{bit-held}

@@ -4,19 +4,15 @@
 --     placed       both
 --     put-at       what is told of a rooted set with room
 --     one-put      two that are told of one call agree, up to the place behind the suffix
-use Rattle.answer.proofs.Kit.{_≡_, refl, sym, ap₂, _∙_, Bool, true, false, and-false, List, ℕ, _+_, _≤_, _<_, arith, length, take, le-leb, lt-leb}
+use Rattle.answer.proofs.Kit.{_≡_, refl, sym, ap₂, _∙_, Bool, true, true≢false, false, and-false, List, ℕ, _+_, _≤_, _<_, arith, length, take, le-leb, lt-leb}
 use Rattle.answer.specs.Written.{Writes}
-use Rattle.answer.proofs.Tests.{said}
 use Rattle.intervals.specs.Sets.{isRooted}
 use Rattle.rules.specs.Suffix.{suffixOf, longest}
 use Rattle.inference.specs.Puts.{hasPlace, PutsSuffix}
 
-never : (b : Bool) → b ≡ true → b ≡ false → ⊥
-never b t f = absurd (said false (sym f ∙ t))
-
 module _ (set : ℕ) (buffer : List ℕ) (at : ℕ) where
   pub stays : hasPlace buffer at set ≡ false → PutsSuffix set buffer at at buffer
-  stays f = record { put = λ t. absurd (never (hasPlace buffer at set) t f); stays = λ e. (refl, refl) }
+  stays f = record { put = λ t. absurd (true≢false (sym t ∙ f)); stays = λ e. (refl, refl) }
 
   pub no-room : length buffer < at + 72 → PutsSuffix set buffer at at buffer
   unfolding hasPlace
@@ -32,7 +28,7 @@ module _ (set : ℕ) (buffer : List ℕ) (at : ℕ) where
     place = rw (is, le-leb (at + longest + 8) (length buffer) (omega arith))
 
     pub placed : (r : ℕ) (left : List ℕ) → Writes buffer at (suffixOf set) r left → PutsSuffix set buffer at r left
-    placed r left w = record { put = λ t. w; stays = λ f. absurd (never (hasPlace buffer at set) place f) }
+    placed r left w = record { put = λ t. w; stays = λ f. absurd (true≢false (sym place ∙ f)) }
 
     pub put-at : (r : ℕ) (left : List ℕ) → PutsSuffix set buffer at r left → Writes buffer at (suffixOf set) r left
     put-at r left p = p .put place

@@ -2,7 +2,7 @@
 --     past        a number past 31 is in no such set
 --     within      so one that is in it is below 32
 --     bit-held    its bit, as code shifts it
-use Rattle.answer.proofs.Kit.{_≡_, ap, subst, _∙_, true, false, ℕ, _*_, _/_, _%_, _^_, _<_, decLt, div-eq-of-lt, lt-of-lt-of-le, pow-le-pow-right, one-mul, arith, T, eqb, lit<, shl-exact}
+use Rattle.answer.proofs.Kit.{_≡_, ap, subst, _∙_, true, false, ℕ, _*_, _%_, _^_, _<_, decLt, div-eq-of-lt, lt-of-lt-of-le, pow-le-pow-right, one-mul, arith, T, eqb, lit<, shl-exact}
 use Rattle.answer.proofs.Tests.{said}
 use Rattle.intervals.specs.Sets.{has}
 

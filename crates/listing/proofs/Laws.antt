@@ -7,7 +7,7 @@
 --                                     texts part the rooted sets
 --     long-listing  a text that is longer than any suffix has none
 --     two-bytes     a listing has two bytes for each of them
-use Rattle.answer.proofs.Kit.{_≡_, refl, sym, ap, ap₂, subst, _∙_, Bool, true, false, cond, _&&_, _||_, or-true, ⊎-elim, List, [], _∷_, ℕ, zero, suc, _+_, _*_, _%_, _<_, _≤_, eq-or-lt-of-le, arith, T, eqb, length, eq-eqb, eqb-true, lt-ltb}
+use Rattle.answer.proofs.Kit.{_≡_, refl, sym, ap, ap₂, _∙_, Bool, true, true≢false, false, cond, _&&_, _||_, or-true, ⊎-elim, List, [], _∷_, ℕ, zero, suc, _+_, _*_, _%_, _<_, _≤_, eq-or-lt-of-le, arith, eqb, length, eq-eqb, eqb-true, lt-ltb}
 use Rattle.answer.specs.Words.{same}
 use Rattle.answer.proofs.Tests.{said, same→eq, eq→same}
 use Rattle.intervals.specs.Sets.{isIn, isRooted}
@@ -21,12 +21,9 @@ use Rattle.listing.specs.Members.{isAbove, isRising}
 abbrev Member : List ℕ → ℕ → ℕ → ℕ → Type 0
 Member t n k s = (k ≤ s) × (s < k + 2 * n) × (s % 2 ≡ 1) × (same t (suffixOf s) ≡ true)
 
-untrue {ℓ} : {A : Type ℓ} → false ≡ true → A
-untrue e = absurd (subst (λ (b : Bool). T b → ⊥) e (λ t. t) tt)
-
 matching-sound : (t : List ℕ) (n k s : ℕ) → k % 2 ≡ 1 → isIn s (matching t n k) ≡ true → Member t n k s
 unfolding matching isIn
-matching-sound t zero k s odd e = untrue e
+matching-sound t zero k s odd e = absurd (true≢false (sym e))
 matching-sound t (suc n) k s odd e = by-case (same t (suffixOf k)) refl e (λ h. matching-sound t n (k + 2) s (omega arith) h)
   where
     later : Member t n (k + 2) s → Member t (suc n) k s
@@ -100,7 +97,7 @@ rising t = matching-rising t 2048 1
 
 pub none-listed : (t : List ℕ) → setsOf t ≡ [] → (s : ℕ) → isRooted s ≡ true → suffixOf s ≡ t → ⊥
 unfolding isIn
-none-listed t e s is has = untrue (ap (isIn s) (sym e) ∙ complete t s is has)
+none-listed t e s is has = true≢false (sym (ap (isIn s) (sym e) ∙ complete t s is has))
 
 pub nothing-listed : (t : List ℕ) → ((s : ℕ) → isRooted s ≡ true → suffixOf s ≡ t → ⊥) → setsOf t ≡ []
 unfolding isIn
