@@ -9,6 +9,7 @@ use Rattle.intervals.proofs.interval.Interval.to_degree.Reads as to-deg
 use Rattle.intervals.proofs.interval.Interval.to_chord_notation.Reads as to-chord-notation
 use Rattle.intervals.proofs.interval.IntDegree.numeric.Reads as numeric
 use Rattle.intervals.proofs.set.is_rooted.Reads as is-rooted
+use Rattle.intervals.proofs.bass.is_bass.Reads as is-bass
 
 pub from-number-decides : Decides from-number.Post
 from-number-decides κs a r r′ s s′ = determined
@@ -33,3 +34,6 @@ numeric-decides κs a r r′ s s′ = determined
 
 pub is-rooted-decides : Decides is-rooted.Post
 is-rooted-decides κs a r r′ s s′ = determined
+
+pub is-bass-decides : Decides is-bass.Post
+is-bass-decides κs a r r′ s s′ = determined

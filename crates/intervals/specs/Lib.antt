@@ -1,3 +1,4 @@
+pub mod Bass
 pub mod Sets
 pub mod Intervals
 pub mod private
