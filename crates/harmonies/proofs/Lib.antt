@@ -1,0 +1,4 @@
+pub mod Parsed
+pub mod Computed
+pub mod Degrees
+pub mod Lossless
