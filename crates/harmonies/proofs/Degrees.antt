@@ -55,8 +55,11 @@ good d t =
     let alter = sameℤ→eq _ _ (right (eqb (numberOf (decimal (d .value))) (d .value)) _ back) in
     record {
       is-clean =
-          rw (is-true (plain (decimal (d .value))) (left (plain (decimal (d .value))) _ three), is-true (plain (integer (d .alter))) (left (plain (integer (d .alter))) _ two),
-          is-true (plain (d .type)) (right (plain (integer (d .alter))) _ two)) tt;
+          rw (
+            is-true (plain (decimal (d .value))) (left (plain (decimal (d .value))) _ three),
+            is-true (plain (integer (d .alter))) (left (plain (integer (d .alter))) _ two),
+            is-true (plain (d .type)) (right (plain (integer (d .alter))) _ two),
+          ) tt;
       back = ap₂ (λ (v : ℕ) (a : ℤ). record { value = v; alter = a; type = d .type } ∷ []) value alter;
     }
 

@@ -141,7 +141,7 @@ unfolding plain isName clean bytes
 node-clean e c = (rw (is-true (clean e) c) tt, rw (is-true (clean e) c) tt, rw (is-true (clean e) c) tt)
 
 -- a bass that is not refused
-class-of : (b : ℕ) → isBass (Bass.Class b) ≡ true → b < 12
+pub class-of : (b : ℕ) → isBass (Bass.Class b) ≡ true → b < 12
 class-of b e = let h = leb→le b 11 (said _ e) in omega arith
 
 under-clean : (b : Bass) → isBass b ≡ true → T (clean (bassOf flats b))
