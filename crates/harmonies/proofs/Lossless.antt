@@ -4,7 +4,7 @@
 --     tail-short      a kind's name and the degrees of a set have no more than 987 bytes
 --     lossless        the theorem
 --     apart           so two elements are the same only where root, bass and set are
-use Rattle.answer.proofs.Kit.{_≡_, ap, sym, _∙_, Bool, true, false, cond, _&&_, List, [], _∷_, _++_, map, ℕ, _+_, _^_, _<_, _≤_, arith, T, eqb, leb, ltb, eqb→eq, leb→le, ltb→lt, length, drop}
+use Rattle.answer.proofs.Kit.{_≡_, ap, sym, _∙_, Bool, true, false, cond, _&&_, List, [], _∷_, _++_, map, ℕ, _+_, _^_, _<_, _≤_, arith, T, eqb, leb, ltb, eqb→eq, leb→le, ltb→lt, length}
 use Rattle.answer.specs.Words.{bytes, same}
 use Rattle.answer.proofs.Tests.{left, right, is-true, said, all, at}
 use Rattle.intervals.specs.Bass.{isBass}
@@ -39,15 +39,14 @@ sizes (d ∷ more) = 102 + length (decimal (d .value)) + length (integer (d .alt
 abbrev tests : ℕ → ChordQuality → Kind → List Degree → Bool
 tests s q k ds =
     eqb (sounding (tonesOf (k .name)) ds) s
-    && (ltb (qualityNumber q) 11 && (hasAll s (map classOf (drop 3 (k .tones))) && leb (length (k .name) + sizes ds) 987))
+    && (ltb (qualityNumber q) 11 && (hasAll s (map classOf (k .more)) && leb (length (k .name) + sizes ds) 987))
 
 tells : ℕ → Bool
 tells s =
     let i = intervalsOf s in
     let q = qualityOf (cond (hasThird i) s (s + 2 ^ 4)) in
     let k = kindOf q in
-    let tones = k .tones in
-    tests s q k (map addOf (outside tones i) ++ map subtractOf (silent tones s))
+    tests s q k (map addOf (outside k i) ++ map subtractOf (silent k s))
 
 all-tell : (s : ℕ) → isRooted s ≡ true → T (tells s)
 unfolding told-computed decimal integer tells sizes
@@ -62,7 +61,7 @@ module _ (s : ℕ) (is : isRooted s ≡ true) where
   told = all-tell s is
 
   abbrev others : Bool
-  others = hasAll s (map classOf (drop 3 (shown .tones)))
+  others = hasAll s (map classOf (shown .more))
 
   abbrev short : Bool
   short = leb (length (shown .name) + sizes (degreesOf s)) 987
@@ -79,7 +78,7 @@ module _ (s : ℕ) (is : isRooted s ≡ true) where
   pub shown-kind : qualityNumber (suffixQuality s) < 11
   shown-kind = ltb→lt _ _ (left (ltb (qualityNumber (suffixQuality s)) 11) (others && short) last-three)
 
-  pub kind-sounds : hasAll s (map classOf (drop 3 (shown .tones))) ≡ true
+  pub kind-sounds : hasAll s (map classOf (shown .more)) ≡ true
   kind-sounds = is-true others (left others short last-two)
 
   pub tail-short : length (shown .name) + sizes (degreesOf s) ≤ 987
@@ -151,7 +150,7 @@ under-clean (Bass.Class b) h = node-clean (asBass b) (bass-clean b (class-of b h
 
 row : (s : ℕ) → Row (degreesOf s)
 unfolding degreesOf
-row s = let tones = kindOf (suffixQuality s) .tones in row-of (outside tones (intervalsOf s)) (silent tones s)
+row s = let k = kindOf (suffixQuality s) in row-of (outside k (intervalsOf s)) (silent k s)
 
 module _ (root : ℕ) (b : Bass) (s : ℕ) (hr : root < 12) (hb : isBass b ≡ true) where
   harmony-clean : T (clean (harmony flats root b s))

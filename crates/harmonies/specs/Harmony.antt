@@ -32,14 +32,20 @@ use Rattle.rules.specs.Parts.{suffixQuality}
 use Rattle.harmonies.specs.Degrees.{Degree}
 use Rattle.harmonies.specs.Xml.{Elements, none, _then_, leaf, node, written}
 
--- a kind: its name, and its tones as intervals above the root
+-- a kind: its name, its third and fifth, and its sixth or seventh, as intervals above the root
 pub record Kind : Type 0 where
   pub name : List ℕ
-  pub tones : List Interval
+  pub third : Interval
+  pub fifth : Interval
+  pub more : List Interval
 
--- a kind of a third and a fifth, with what else it has
+-- a kind with its name quoted
 abbrev kind : String → Interval → Interval → List Interval → Kind
-kind name third fifth more = record { name = bytes name; tones = Unison ∷ third ∷ fifth ∷ more }
+kind name third fifth more = record { name = bytes name; third = third; fifth = fifth; more = more }
+
+-- its tones, by rising degree
+abbrev pub tones : Kind → List Interval
+tones k = Unison ∷ k .third ∷ k .fifth ∷ k .more
 
 -- "Kinds by the suffix's quality", with "the triad of the kind, and its sixth or seventh"; no rooted set shows the last two (proofs/Lossless.antt, `shown-kind`)
 abbrev pub kindOf : ChordQuality → Kind
@@ -81,18 +87,17 @@ abbrev pub subtractOf : Interval → Degree
 subtractOf tone = record { value = numericOf (toDegreeOf tone); alter = pos 0; type = bytes "subtract" }
 
 -- the intervals outside the kind, "by pitch class", in their rising order
-unfoldable pub outside : List Interval → List Interval → List Interval
-outside tones found = keep (λ i. not (isIn (classOf i) (map classOf tones))) found
+unfoldable pub outside : Kind → List Interval → List Interval
+outside k found = keep (λ i. not (isIn (classOf i) (map classOf (tones k)))) found
 
--- "each tone of the kind that doesn't sound", which stand by rising degree
-unfoldable pub silent : List Interval → ℕ → List Interval
-silent tones s = keep (λ t. not (has s (classOf t))) tones
+-- "each tone of the kind that doesn't sound"
+unfoldable pub silent : Kind → ℕ → List Interval
+silent k s = keep (λ t. not (has s (classOf t))) (tones k)
 
 -- "Adds in rising interval order; then each tone of the kind that doesn't sound as a `subtract`"
 unfoldable pub degreesOf : ℕ → List Degree
 degreesOf s =
-    let tones = kindOf (suffixQuality s) .tones in
-    map addOf (outside tones (intervalsOf s)) ++ map subtractOf (silent tones s)
+    let k = kindOf (suffixQuality s) in map addOf (outside k (intervalsOf s)) ++ map subtractOf (silent k s)
 
 -- a number below 100 in decimal
 unfoldable pub decimal : ℕ → List ℕ
