@@ -1,19 +1,16 @@
 -- No element has more than 1,147 bytes, and one has as many.
 --     root-short, bass-short     a root's and a bass's element
 --     harmony-short     the bound
---     harmony-room      so no call's answer has more bytes
 --     longest-reached   and one has them
-use Rattle.answer.proofs.Kit.{_≡_, refl, ap, Bool, true, false, cond, _&&_, ℕ, _+_, _<_, _≤_, arith, T, leb, leb→le, length, length-append}
+use Rattle.answer.proofs.Kit.{_≡_, refl, Bool, true, _&&_, ℕ, _<_, _≤_, arith, T, leb, leb→le, length, length-append}
 use Rattle.answer.specs.Words.{bytes}
-use Rattle.answer.specs.Replies.{AtMost, refuse, text}
-use Rattle.answer.specs.declared.refusal.Refusal.the-variants.{NotASet, BadClass}
-use Rattle.answer.proofs.Tests.{left, right, is-true, said, all, at}
+use Rattle.answer.proofs.Tests.{left, right, all, at}
 use Rattle.intervals.specs.Bass.{isBass}
 use Rattle.intervals.specs.Sets.{isRooted}
 use Rattle.intervals.specs.declared.bass.Bass.{Bass}
 use Rattle.intervals.specs.declared.bass.Bass.the-variants.{None, Class}
 use Rattle.harmonies.specs.Xml.{written}
-use Rattle.harmonies.specs.Harmony.{flats, rootOf, bassOf, degreesOf, harmonyOf, longest, harmonyReply}
+use Rattle.harmonies.specs.Harmony.{flats, rootOf, bassOf, degreesOf, harmonyOf, longest}
 use Rattle.harmonies.proofs.Computed.{harmony-computed}
 use Rattle.harmonies.proofs.Lossless.{class-of, tail-short}
 use Rattle.harmonies.proofs.Texts.{degrees-long, harmony-text}
@@ -42,22 +39,6 @@ unfolding bytes
 harmony-short root b s hr hb is =
     rw (harmony-text flats root b s)
     (simp length-append (omega (arith, root-short root hr, bass-short b hb, tail-short s is, degrees-long (degreesOf s))))
-
-pub harmony-room : (root : ℕ) (b : Bass) (s : ℕ) → AtMost longest (harmonyReply flats root b s)
-unfolding harmonyReply
-harmony-room root b s = by-set (isRooted s) refl
-  where
-    by-class : isRooted s ≡ true → (c : Bool) → leb root 11 && isBass b ≡ c → AtMost longest (cond c (text (harmonyOf flats root b s)) (refuse BadClass))
-    by-class is true e =
-        let told = said _ e in
-        let class = leb→le root 11 (left (leb root 11) (isBass b) told) in
-        harmony-short root b s (omega arith) (is-true (isBass b) (right (leb root 11) (isBass b) told)) is
-    by-class is false e = tt
-
-    by-set : (c : Bool) → isRooted s ≡ c
-        → AtMost longest (cond c (cond (leb root 11 && isBass b) (text (harmonyOf flats root b s)) (refuse BadClass)) (refuse NotASet))
-    by-set true is = by-class is (leb root 11 && isBass b) refl
-    by-set false e = tt
 
 -- on Db over Db
 pub longest-reached : length (harmonyOf flats 1 (Class 1) 3943) ≡ longest

@@ -1,5 +1,5 @@
 -- The `harmony` element of a rooted set on a root class, over a bass class or none: paper 02, Q-2, for any table of the classes as notes.
-use mathlib.Core.Bool.{Bool, cond, not, _&&_}
+use mathlib.Core.Bool.{cond, not}
 use mathlib.Core.List.{List, [], _∷_, _++_, map}
 use Prim.Native.Nat.{ℕ, suc, _+_, _/_, _%_}
 use Prim.Native.String.{String}
@@ -7,10 +7,7 @@ use lib.Dec.{leb}
 use lib.IntN.{ℤ, pos, negsuc, _-ℤ_}
 use lib.ListN.{getD}
 use Rattle.answer.specs.Words.{bytes}
-use Rattle.answer.specs.Replies.{Reply, refuse, text}
-use Rattle.answer.specs.declared.refusal.Refusal.the-variants.{NotASet, BadClass}
-use Rattle.intervals.specs.Bass.{isBass}
-use Rattle.intervals.specs.Sets.{has, isIn, isRooted}
+use Rattle.intervals.specs.Sets.{has, isIn}
 use Rattle.intervals.specs.Intervals.{semitonesOf, toDegreeOf, classOf, numericOf}
 use Rattle.intervals.specs.declared.bass.Bass.{Bass}
 use Rattle.intervals.specs.declared.bass.Bass.the-variants as Bass
@@ -153,8 +150,3 @@ harmonyOf table root bass s = written (harmony table root bass s)
 -- "the longest has 1,147 bytes": proofs/Long.antt has the theorem
 abbrev pub longest : ℕ
 longest = 1147
-
--- what a call has to give: refusals 1 and 2 in this order, or the element
-unfoldable pub harmonyReply : List Note → ℕ → Bass → ℕ → Reply
-harmonyReply table root bass s =
-    cond (isRooted s) (cond (leb root 11 && isBass bass) (text (harmonyOf table root bass s)) (refuse BadClass)) (refuse NotASet)

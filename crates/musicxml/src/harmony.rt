@@ -28,8 +28,9 @@ ghost use Rattle.intervals.specs.Intervals.{setOf};
 ghost use Rattle.intervals.specs.Sets.{isRooted};
 ghost use Rattle.rules.specs.Classes.{intervalsOf};
 ghost use Rattle.rules.specs.Parts.{suffixQuality};
-ghost use Rattle.harmonies.specs.Harmony.{flats, bassOf, harmonyOf, harmonyReply};
+ghost use Rattle.harmonies.specs.Harmony.{flats, bassOf, harmonyOf};
 ghost use Rattle.harmonies.specs.Xml.{written};
+ghost use Rattle.musicxml.specs.Replies.{harmonyReply};
 ghost use Rattle.musicxml.specs.private.Pitches.{alterWhere, pitchText};
 
 // The longest element, and eight bytes more: a word is stored whole.
