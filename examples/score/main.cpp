@@ -1,10 +1,10 @@
 // From lines of MIDI keys on standard input to a score in MusicXML on standard output: a measure
-// for each line, with its keys and the simplest symbol for them.
-//   score          an empty line is a measure's rest
-//   score --all    a measure for each candidate of a line
-// A line that can't be read is told on standard error by its number; there is no score then.
-#include "chord.hpp"
+// for each line, its keys below the simplest of their symbols. An empty line is a rest.
+//   score <KEYS >SCORE
+//   score --all <KEYS >SCORE    a measure for each symbol that a line's keys may have
+// A line that can't be read is told by its number, and then there is no score.
 #include "keys.hpp"
+#include "measure.hpp"
 #include "score.hpp"
 
 #include <iostream>
@@ -14,14 +14,14 @@
 
 namespace {
 
-void add_line(std::vector<chord> &score, const key_list &keys, bool is_all) {
-    const std::vector<chord> chords = every_chord(keys);
-    if (chords.empty())
+void add_line(std::vector<measure> &score, const key_list &keys, bool is_all) {
+    const std::vector<measure> measures = every_measure(keys);
+    if (measures.empty())
         score.emplace_back();
     else if (is_all)
-        score.insert(score.end(), chords.begin(), chords.end());
+        score.insert(score.end(), measures.begin(), measures.end());
     else
-        score.push_back(simplest(chords));
+        score.push_back(simplest(measures));
 }
 
 int fail(std::string_view why) {
@@ -34,8 +34,8 @@ int fail(std::string_view why) {
 int main(int count, char **words) {
     const bool is_all = count == 2 && std::string_view(words[1]) == "--all";
     if (count > 1 && !is_all)
-        return fail("usage: score [--all] <keys >score.musicxml");
-    std::vector<chord> score;
+        return fail("usage: score [--all] <KEYS >SCORE");
+    std::vector<measure> score;
     int status = 0;
     std::string line;
     for (unsigned number = 1; std::getline(std::cin, line); number++) {
@@ -44,8 +44,8 @@ int main(int count, char **words) {
         else
             status = fail("line " + std::to_string(number) + " can't be read");
     }
-    if (status == 0 && score.empty())
-        status = fail("there are no lines");
+    if (score.empty() && status == 0)
+        status = fail("there is no line of keys");
     if (status == 0)
         write_score(std::cout, score);
     return status;

@@ -33,7 +33,7 @@ constexpr char foot[] = R"(  </part>
 </score-partwise>
 )";
 
-// Every note of a chord but its first says that it sounds with the one before.
+// Every note but the first says that it sounds with the one before.
 void write_note(std::ostream &out, const pitch &sounding, bool is_first) {
     out << "      <note>" << (is_first ? "" : "<chord/>");
     out << "<pitch><step>" << sounding.step << "</step>";
@@ -44,24 +44,24 @@ void write_note(std::ostream &out, const pitch &sounding, bool is_first) {
 }
 
 // The symbol stands before the notes that it is for.
-void write_measure(std::ostream &out, std::size_t number, const chord &sounding) {
+void write_measure(std::ostream &out, std::size_t number, const measure &written) {
     out << "    <measure number=\"" << number << "\">\n";
     if (number == 1)
         out << attributes;
-    if (!sounding.harmony.empty())
-        out << "      " << sounding.harmony << "\n";
-    if (sounding.pitches.empty())
+    if (!written.harmony.empty())
+        out << "      " << written.harmony << "\n";
+    if (written.pitches.empty())
         out << rest;
-    for (const pitch &note : sounding.pitches)
-        write_note(out, note, &note == &sounding.pitches.front());
+    for (const pitch &note : written.pitches)
+        write_note(out, note, &note == &written.pitches.front());
     out << "    </measure>\n";
 }
 
 } // namespace
 
-void write_score(std::ostream &out, const std::vector<chord> &chords) {
+void write_score(std::ostream &out, const std::vector<measure> &measures) {
     out << head;
-    for (std::size_t at = 0; at < chords.size(); at++)
-        write_measure(out, at + 1, chords[at]);
+    for (std::size_t at = 0; at < measures.size(); at++)
+        write_measure(out, at + 1, measures[at]);
     out << foot;
 }

@@ -1,13 +1,13 @@
-// Chords become a score in MusicXML.
+// Measures become a score in MusicXML.
 #ifndef SCORE_HPP
 #define SCORE_HPP
 
-#include "chord.hpp"
+#include "measure.hpp"
 
 #include <ostream>
 #include <vector>
 
-// One part, and in it a measure for each chord; MusicXML wants one at least.
-void write_score(std::ostream &out, const std::vector<chord> &chords);
+// One part with these measures; MusicXML wants one at least.
+void write_score(std::ostream &out, const std::vector<measure> &measures);
 
 #endif

@@ -1,4 +1,4 @@
-#include "chord.hpp"
+#include "measure.hpp"
 
 #include <hemotusap.hpp>
 
@@ -19,11 +19,11 @@ struct tone {
 // By pitch class, for the classes that the chord has.
 using spelling = std::array<tone, 12>;
 
-spelling spelled(std::uint32_t root, std::uint32_t set) {
+spelling spelled(const hemotusap::chord &chord) {
     constexpr std::string_view letters = "CDEFGAB";
     constexpr int naturals[] = {0, 2, 4, 5, 7, 9, 11};
     char text[hemotusap::tones_room];
-    std::istringstream names{std::string(*hemotusap::tones(root, set, text))};
+    std::istringstream names{std::string(*hemotusap::tones(chord.root, chord.set, text))};
     spelling tones{};
     for (std::string name; names >> name;) {
         const auto sharps = std::count(name.begin(), name.end(), '#');
@@ -34,14 +34,23 @@ spelling spelled(std::uint32_t root, std::uint32_t set) {
     return tones;
 }
 
-// The octave is that of the letter, so that the key below middle C may be Cb4. MusicXML has the
-// octaves 0 to 9; a key beyond them is drawn in the nearest.
+// The octave is that of the letter: the key below middle C may be Cb4. MusicXML has the octaves 0
+// to 9, and a key beyond them is drawn in the nearest.
 pitch pitched(int key, tone named) {
     const int octave = (key - named.alter) / 12 - 1;
     return {named.step, named.alter, std::clamp(octave, 0, 9)};
 }
 
-std::size_t degrees(const chord &counted) {
+measure made(const std::set<std::uint8_t> &keys, const hemotusap::chord &chord) {
+    char element[hemotusap::harmony_room];
+    measure result{std::string(*hemotusap::harmony(chord, element)), {}};
+    const spelling tones = spelled(chord);
+    for (const int key : keys)
+        result.pitches.push_back(pitched(key, tones[key % 12]));
+    return result;
+}
+
+std::size_t degrees(const measure &counted) {
     constexpr std::string_view tag = "<degree>";
     std::size_t count = 0;
     for (auto at = counted.harmony.find(tag); at != std::string::npos;
@@ -52,23 +61,17 @@ std::size_t degrees(const chord &counted) {
 
 } // namespace
 
-std::vector<chord> every_chord(const key_list &keys) {
+std::vector<measure> every_measure(const key_list &keys) {
     const std::set<std::uint8_t> rising(keys.begin(), keys.end());
-    std::vector<chord> chords;
-    for (std::uint32_t number = 0; const auto parts = hemotusap::candidate(keys, number);
-         number++) {
-        char element[hemotusap::harmony_room];
-        const auto harmony = hemotusap::harmony(parts->root, parts->bass, parts->set, element);
-        const spelling tones = spelled(parts->root, parts->set);
-        chord &made = chords.emplace_back(chord{std::string(*harmony), {}});
-        for (const int key : rising)
-            made.pitches.push_back(pitched(key, tones[key % 12]));
-    }
-    return chords;
+    std::vector<measure> measures;
+    for (std::uint32_t at = 0; const auto chord = hemotusap::candidate(keys, at); at++)
+        measures.push_back(made(rising, *chord));
+    return measures;
 }
 
-chord simplest(const std::vector<chord> &chords) {
-    return *std::min_element(chords.begin(), chords.end(), [](const chord &a, const chord &b) {
+measure simplest(const std::vector<measure> &measures) {
+    const auto is_simpler = [](const measure &a, const measure &b) {
         return degrees(a) < degrees(b);
-    });
+    };
+    return *std::min_element(measures.begin(), measures.end(), is_simpler);
 }
