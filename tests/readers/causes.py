@@ -23,7 +23,7 @@ class Difference(NamedTuple):
 # All faults together have to give the chord that was read; a cause is a fault that gives another chord than was given, alone.
 def find_differences(reader, symbols, given):
     found = []
-    for measure, (symbol, wanted, read) in enumerate(zip(symbols, given, reader.chords, strict=True), 1):
+    for measure, (symbol, wanted, read) in enumerate(zip(symbols, given, reader.chords), 1):
         causes = [fault for fault in reader.faults if reader.model(symbol, {fault}) != wanted]
         if read != reader.model(symbol, reader.faults) or (read != wanted and not causes):
             sys.exit(f"run-readers: {reader.name}: measure {measure}, {wanted}, is read as {read} for no cause that is listed")

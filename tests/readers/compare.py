@@ -32,8 +32,10 @@ def read_chords(path):
     return [chord_of(symbol) for symbol in read_score(path)]
 
 
-def places(chords):
-    return [(root, bass) for root, bass, _ in chords]
+def check_places(reader, read, given):
+    check(len(read) == len(given), f"{reader} has {len(read)} chords of {len(given)}")
+    for measure, (one, wanted) in enumerate(zip(read, given), 1):
+        check(one[:2] == wanted[:2], f"{reader} lost the root or bass of measure {measure}: {one}, and not {wanted}")
 
 
 # LilyPond complains of how its own converter writes a second subtract, says at its end that it failed, and nothing else.
@@ -41,17 +43,18 @@ def check_complaints(text, symbols):
     seconds = sum(len(symbol.of_type("subtract")) > 1 for symbol in symbols)
     known = len(re.findall(r"error: Spurious garbage following chord: \(chord-caret ", text))
     every = len(re.findall("error: |warning: ", text))
-    check(known == seconds and every == known + (known > 0), f"LilyPond has other complaints than {seconds} known:\n{text[-2000:]}")
+    check(known == seconds and every == known + (known > 0), f"LilyPond complains otherwise:\n{text[-2000:].rstrip()}")
 
 
-# The readers' chords, after a look at every root and bass. LilyPond's model has a bass that is lost, musicxml2ly keeps them all.
+# musicxml2ly keeps every root and bass; of what LilyPond then reads the model tells.
 def read_all(folder, given):
     saved, reopened = (read_chords(folder / f"{name}.musicxml") for name in ("saved", "reopened"))
-    check(places(saved) == places(given), "MuseScore lost a root or a bass in saving")
-    check(places(reopened) == places(given), "MuseScore lost a root or a bass in its own format")
     converted = lilypond.read_names((folder / "score.ly").read_text())
-    check(converted == places(given), "musicxml2ly lost a root or a bass")
     pitches = read_lines(folder / "pitches", lilypond.read_pitches)
+    check_places("MuseScore, saving as MusicXML,", saved, given)
+    check_places("MuseScore, in its own format,", reopened, given)
+    check_places("musicxml2ly", converted, given)
+    check(len(pitches) == len(given), f"LilyPond has {len(pitches)} chords of {len(given)}")
     return (
         Reader("MuseScore, opened and saved as MusicXML", musescore.SAVED, musescore.saved, saved),
         Reader("MuseScore, saved in its own format and opened again", musescore.REOPENED, musescore.reopened, reopened),

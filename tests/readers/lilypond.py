@@ -1,12 +1,13 @@
 # What LilyPond reads where musicxml2ly wrote a symbol, and the faults of both by which it is another chord.
 import re
-from harmony import KINDS, Chord, set_of
+
+from harmony import KINDS, STEPS, Chord, set_of
 
 FAULTS = {
-    "power": "a triad is written `:5`, with `m`, `aug` or `dim` in front, which is a power chord: the third is lost",
+    "power": "a triad is written `:5`, `:m5`, `:aug5` or `:dim5`, which is a power chord: the third is lost",
     "once": "a degree has one tone: an added one takes the place of the one before",
-    "whole": "a subtract takes every tone of its degree, the added one too",
-    "second": "two subtracts are written `^3^5`, which LilyPond complains of: it reads the first, and no bass behind it",
+    "whole": "a subtract takes every tone of its degree, an added one too",
+    "second": "two subtracts are written `^3^5`, of which LilyPond complains: it reads the first, and no bass behind them",
 }
 
 TRIADS = ("major", "minor", "augmented", "diminished")
@@ -42,11 +43,13 @@ def read_pitches(line):
     return Chord(int(root), None if bass == "-" else int(bass), set_of([0, *above]))
 
 
-NAMES = {"c": 0, "des": 1, "d": 2, "es": 3, "ees": 3, "e": 4, "f": 5, "ges": 6, "g": 7, "as": 8, "aes": 8, "a": 9, "bes": 10, "b": 11}
+# Names are Dutch, in which a flat ends with s: `des`, `es`.
+def class_of(name):
+    return (STEPS[name[0].upper()] - name.endswith("s")) % 12
 
 
 # Root and bass of each symbol as musicxml2ly wrote it: `des1:7.9+/+f` is 1 and 5.
 def read_names(text):
     symbols = re.search(r"\\chordmode \{(.*?)\}", text, re.DOTALL).group(1)
     written = re.findall(r"^\s*([a-g][es]*)1:[^\s/]*(?:/\+([a-g][es]*))?\s", symbols, re.MULTILINE)
-    return [(NAMES[root], NAMES[bass] if bass else None) for root, bass in written]
+    return [(class_of(root), class_of(bass) if bass else None) for root, bass in written]

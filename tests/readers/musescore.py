@@ -5,12 +5,12 @@ EXTENSIONS = (9, 11, 13)
 
 # In a score that it opened and saved as MusicXML.
 SAVED = {
-    "fused": "of the natural 9, 11 and 13 of a `major-minor` it keeps the highest alone",
+    "fused": "of the natural 9, 11 and 13 that are added to a `major-minor` the highest alone is kept",
 }
 
-# In one that it saved in its own format, where a symbol is its text, and opened again.
+# In one that it saved in its own format, which has a symbol's text alone, and opened again.
 REOPENED = {
-    "stacked": "a `major-minor` with a natural 9, 11 or 13 has, of those up to the highest, all that aren't altered",
+    "stacked": "a natural 9, 11 or 13 that is added to a `major-minor` brings the ones below it, but for an altered degree",
     "altered": "an added b5 or #5 becomes an `alter` of the kind's own fifth",
 }
 
@@ -19,21 +19,23 @@ def is_natural_extension(degree):
     return degree.type == "add" and degree.value in EXTENSIONS and degree.alter == 0
 
 
-# The natural extensions of a symbol become those that `kept` says of the highest.
+# The natural extensions of a `major-minor` give way to those that `kept` tells of the highest.
 def with_naturals(symbol, kept):
     naturals = [degree.value for degree in symbol.degrees if is_natural_extension(degree)]
     if symbol.kind != "major-minor" or not naturals:
         return symbol
     others = tuple(degree for degree in symbol.degrees if not is_natural_extension(degree))
-    extensions = tuple(Degree("add", value, 0) for value in kept(max(naturals)))
-    return symbol._replace(degrees=others + extensions)
+    return symbol._replace(degrees=others + tuple(Degree("add", value, 0) for value in kept(max(naturals))))
+
+
+def fused(symbol):
+    return with_naturals(symbol, lambda highest: [highest])
 
 
 def stacked(symbol):
     altered = {degree.value for degree in symbol.of_type("add") if degree.alter != 0}
-    return with_naturals(
-        symbol, lambda highest: [each for each in EXTENSIONS if each == highest or each < highest and each not in altered]
-    )
+    below = [value for value in EXTENSIONS if value not in altered]
+    return with_naturals(symbol, lambda highest: [*(value for value in below if value < highest), highest])
 
 
 def is_altered_fifth(degree):
@@ -47,7 +49,7 @@ def altered(symbol):
 
 def saved(symbol, faults):
     if "fused" in faults:
-        symbol = with_naturals(symbol, lambda highest: [highest])
+        symbol = fused(symbol)
     return chord_of(symbol)
 
 

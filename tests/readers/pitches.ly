@@ -1,5 +1,5 @@
-% Prints the pitch classes of each chord symbol that musicxml2ly wrote into score.ly: of the bass or a dash, then of the tones from
-% the root up. It engraves nothing.
+% Prints the pitch classes of each chord symbol that musicxml2ly wrote into score.ly: that of the bass or a dash, then those of
+% the tones from the root up. It engraves nothing.
 \version "2.24.0"
 #(define toplevel-score-handler (const #f))
 \include "score.ly"
