@@ -44,9 +44,10 @@ int main(int count, char **words) {
         else
             status = fail("line " + std::to_string(number) + " can't be read");
     }
-    if (score.empty() && status == 0)
-        status = fail("there is no line of keys");
-    if (status == 0)
-        write_score(std::cout, score);
-    return status;
+    if (status != 0)
+        return status;
+    if (score.empty())
+        return fail("there is no line of keys");
+    write_score(std::cout, score);
+    return std::cout.flush() ? 0 : fail("the score can't be written");
 }
