@@ -34,11 +34,11 @@ spelling spelled(const hemotusap::chord &chord) {
     return tones;
 }
 
-// The octave is that of the letter: the key below middle C may be Cb4. MusicXML has the octaves 0
-// to 9, and a key beyond them is drawn in the nearest.
+// The octave is that of the letter: the key below middle C may be Cb4. MusicXML has none below 0,
+// and MIDI no whole one above 8; a key beyond them is drawn in the nearest.
 pitch pitched(int key, tone named) {
     const int octave = (key - named.alter) / 12 - 1;
-    return {named.step, named.alter, std::clamp(octave, 0, 9)};
+    return {named.step, named.alter, std::clamp(octave, 0, 8)};
 }
 
 measure made(const std::set<std::uint8_t> &keys, const hemotusap::chord &chord) {
