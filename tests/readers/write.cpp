@@ -36,12 +36,6 @@ std::vector<chord> choose(std::uint64_t seed, std::uint64_t draws) {
     return chosen;
 }
 
-// Any note will do below a symbol.
-measure made(const chord &chosen) {
-    char element[hemotusap::harmony_room];
-    return {std::string(hemotusap::harmony(chosen, element).value_or("")), {{'C', 0, 4}}};
-}
-
 } // namespace
 
 int main(int count, char **words) {
@@ -52,9 +46,14 @@ int main(int count, char **words) {
     std::ofstream given(words[3]);
     std::vector<measure> score;
     for (const chord &chosen : choose(seed, draws)) {
+        char room[hemotusap::harmony_room];
+        const auto element = hemotusap::harmony(chosen, room);
+        if (!element)
+            return 1;
         const auto bass = chosen.bass ? std::to_string(*chosen.bass) : "-";
         given << chosen.root << ' ' << bass << ' ' << chosen.set << '\n';
-        score.push_back(made(chosen));
+        // Any note will do below a symbol.
+        score.push_back({std::string(*element), {{'C', 0, 4}}});
     }
     write_score(std::cout, score);
     return given.flush() && std::cout.flush() ? 0 : 1;
