@@ -11,6 +11,8 @@ use Rattle.answer.specs.Replies.{Reply, outputOf, roomAfter}
 use Rattle.answer.specs.declared.refusal.Refusal.{Refusal}
 use Rattle.answer.specs.declared.output.Output.{Output}
 use Rattle.answer.specs.declared.output.Output.the-variants as Output
+use Rattle.intervals.specs.declared.bass.Bass.{Bass}
+use Rattle.intervals.specs.declared.bass.Bass.the-variants as Bass
 use Rattle.notes.specs.Notes.{countOf}
 use Rattle.qualities.specs.Qualities as Qualities
 use Rattle.notes.specs.declared.note.Note.{Note}
@@ -18,8 +20,6 @@ use Rattle.notes.specs.declared.note.NoteAnswer.{NoteAnswer}
 use Rattle.notes.specs.declared.note.NoteAnswer.the-variants as Moved
 use Rattle.qualities.specs.declared.quality.QualityAnswer.{QualityAnswer}
 use Rattle.qualities.specs.declared.quality.QualityAnswer.the-variants as Quality
-use Rattle.voicings.specs.declared.voicing.Bass.{Bass}
-use Rattle.voicings.specs.declared.voicing.Bass.the-variants as Bass
 use Rattle.voicings.specs.declared.voicing.Lead.{Lead}
 use Rattle.voicings.specs.declared.voicing.Lead.the-variants as Lead
 use Rattle.voicings.specs.declared.voicing.Chord.{Chord}

@@ -1,6 +1,6 @@
 // Voicings for the host.
 use crate::host::written;
-use voicings::voicing::Bass;
+use intervals::bass::Bass;
 use voicings::voicing::Chord;
 use voicings::voicing::Lead;
 use voicings::voicing::voicing;
