@@ -11,7 +11,7 @@ use Rattle.answer.specs.Words.{bytes}
 use Rattle.answer.specs.Lines.{lineFeed, lineFeeds, linesOf, lineAt}
 use Rattle.answer.specs.Lines as Lines
 use Rattle.answer.proofs.Feeds.{feeds-append, line-first, lines-fed}
-use Rattle.intervals.specs.Sets.{isIn, isRooted, classCount}
+use Rattle.intervals.specs.Sets.{isRooted, classCount, setWhere, isIn}
 use Rattle.intervals.specs.declared.bass.Bass.{Bass}
 use Rattle.intervals.specs.declared.bass.Bass.the-variants.{None, Class}
 use Rattle.notes.specs.declared.note.Note.{Note}
@@ -21,7 +21,7 @@ use Rattle.rules.proofs.Short.{suffix-line}
 use Rattle.candidates.specs.declared.parts.Candidate.{Candidate}
 use Rattle.candidates.specs.declared.parts.MaybeCandidate.{MaybeCandidate}
 use Rattle.candidates.specs.declared.parts.MaybeCandidate.the-variants.{Is, Nothing}
-use Rattle.candidates.specs.Keys.{setWhere, classSet, firsts}
+use Rattle.candidates.specs.Keys.{classSet, firsts}
 use Rattle.candidates.specs.Candidates.{chord, chords, chordsOf, numberedIn, candidateAt, over, slash, symbol, line, lines, candidatesOf}
 use Rattle.candidates.proofs.Heard.{set-of-firsts}
 use Rattle.candidates.proofs.Chords.{AllRooted, IsChord, as-many, chords-counted, chords-are, chords-rooted, numbered-chord, numbered-past, numbered-among}

@@ -1,4 +1,3 @@
-pub mod Wheres
 pub mod Turned
 pub mod Heard
 pub mod Firsts
