@@ -33,6 +33,12 @@ pub(crate) fn find(keys: &[u8], order: &mut [u8]) -> Found
     Found { set, count }
 }
 
+pub(crate) fn wide(class: u8) -> u32
+    ensures { λ r. ⌜ r ≡ class ⌝ }
+{
+    class as u32
+}
+
 // A class of the two octaves above C, in the first: a division costs more than the rest of a walk's step.
 fn in_octave(class: u32) -> u32
     requires { ⌜ class < 24 ⌝ }

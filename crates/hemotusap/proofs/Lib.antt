@@ -1,3 +1,4 @@
 pub mod Wide
 pub mod Determined
 pub mod Rooms
+pub mod ReadBack

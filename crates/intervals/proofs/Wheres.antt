@@ -4,9 +4,8 @@
 --     where-less, where-says     the same of all twelve
 --     where-joined               a test that takes one class more
 use Rattle.answer.proofs.Kit.{_≡_, refl, sym, ap, ap₂, subst, _∙_, Bool, true, false, cond, _||_, ⊎-elim, ℕ, zero, suc, _+_, _^_, _<_, eq-or-lt-of-le, le-of-suc-le-suc, not-suc-le-zero, div-eq-of-lt, add-zero, add-right-comm, pow-suc, arith, eqb, lit<, pow-pos, eq-eqb, ne-eqb}
-use Rattle.intervals.specs.Sets.{has}
+use Rattle.intervals.specs.Sets.{has, setBelow, setWhere}
 use Rattle.intervals.proofs.Members.{joined-has, missing}
-use Rattle.candidates.specs.Keys.{setBelow, setWhere}
 
 pub below-less : (n : ℕ) (holds : ℕ → Bool) → setBelow n holds < 2 ^ n
 unfolding setBelow
