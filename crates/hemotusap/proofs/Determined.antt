@@ -12,6 +12,7 @@ use Rattle.hemotusap.proofs.symbols.hemotusap_tones.Reads as tones
 use Rattle.hemotusap.proofs.symbols.hemotusap_candidates.Reads as candidates
 use Rattle.hemotusap.proofs.symbols.hemotusap_candidate_count.Reads as candidate-count
 use Rattle.hemotusap.proofs.symbols.hemotusap_candidate.Reads as candidate
+use Rattle.hemotusap.proofs.scores.hemotusap_harmony.Reads as harmony
 use Rattle.hemotusap.proofs.voices.hemotusap_voicing.Reads as voicing
 
 pub quality-decides : Decides quality.Post
@@ -46,3 +47,6 @@ tones-decides κs a r r′ s s′ = both
 
 pub voicing-decides : DecidesWith voicing.Post (λ κs s. now (s .1 .1 .1 .1 .1 .0))
 voicing-decides κs a r r′ s s′ = both
+
+pub harmony-decides : DecidesWith harmony.Post (λ κs s. now (s .1 .1 .1 .0))
+harmony-decides κs a r r′ s s′ = both

@@ -2,3 +2,4 @@ pub mod Wide
 pub mod Determined
 pub mod Rooms
 pub mod ReadBack
+pub mod Exported
