@@ -1,9 +1,10 @@
 -- Laws of the candidates of a list in their parts.
+--     chord-rooted                     a set seen from one of its classes is rooted
 --     numbered-chord, numbered-past    the candidate of a number, and none past the last
---     chords-length                    there are as many as first occurrences
---     chords-counted                   as many as the set has classes
+--     numbered-among                   what has a number is one of them
+--     chords-length, chords-counted    there are as many as first occurrences, and as the set has classes
 --     IsChord, chords-are              what each of them is: a rooted set on a class of the list, over none or a class of it
---     chords-rooted                    so each has a rooted set
+--     AllRooted, chords-rooted         so each has a rooted set
 use Rattle.answer.proofs.Kit.{_≡_, refl, sym, ap, subst, _∙_, Bool, true, false, List, [], _∷_, List·Memᴰ, List·Memᴰ·head, List·Memᴰ·tail, List·Memᴰ·not-nil, List·Memᴰ·cases-cons, Memᴰ·of-map, map, ⊎-elim, ℕ, zero, suc, _<_, _≤_, suc-le-suc, le-of-suc-le-suc, not-suc-le-zero, arith, length, getD, length-map, eqb, ne-eqb, le-leb}
 use Rattle.intervals.specs.Bass.{isBass}
 use Rattle.intervals.specs.Sets.{has, isRooted, classCount}
@@ -46,7 +47,7 @@ numbered-past [] n h = refl
 numbered-past (c ∷ more) zero h = absurd (not-suc-le-zero h)
 numbered-past (c ∷ more) (suc n) h = numbered-past more n (le-of-suc-le-suc h)
 
-pub as-many : (set : ℕ) (classes : List ℕ) → length (chords set classes) ≡ length classes
+as-many : (set : ℕ) (classes : List ℕ) → length (chords set classes) ≡ length classes
 unfolding chords
 as-many set [] = refl
 as-many set (first ∷ rest) = ap suc (length-map rest (chord set (Class first)))
@@ -84,7 +85,7 @@ module _ (set : ℕ) where
       (λ later. class-is more (λ i h. k (suc i) (suc-le-suc h)) class later)
       (List·Memᴰ·cases-cons m)
 
-  pub all-are : (classes : List ℕ) → Classes set classes → (c : Candidate) → List·Memᴰ c (chords set classes) → IsChord set c
+  all-are : (classes : List ℕ) → Classes set classes → (c : Candidate) → List·Memᴰ c (chords set classes) → IsChord set c
   unfolding chords
   all-are [] k c m = absurd (List·Memᴰ·not-nil m)
   all-are (first ∷ rest) k c m =

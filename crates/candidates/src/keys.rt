@@ -1,7 +1,7 @@
 // The classes of a list of MIDI keys, and a set of classes seen from another root, as in the Rust's `inference/mod.rs`.
 ghost use mathlib.Core.Path.{_≡_};
 ghost use Prim.Native.Nat.{_%_, _<_, _≤_};
-ghost use lib.ListN.{length, take};
+ghost use lib.ListN.{length};
 ghost use Rattle.candidates.specs.Keys.{seenFrom};
 ghost use Rattle.candidates.specs.private.Finds.{Finds};
 

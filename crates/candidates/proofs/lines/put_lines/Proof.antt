@@ -7,7 +7,7 @@ use Rattle.answer.specs.Words.{digits, long, textOf}
 use Rattle.answer.specs.Written.{Writes}
 use Rattle.answer.proofs.Parts.{part-puts, part-long}
 use Rattle.answer.proofs.Writing.{also, same-text, Puts, SoFar, so-far-none, so-far-next, so-far-all}
-use Rattle.names.specs.Names.{flats, nameOf}
+use Rattle.names.specs.Names.{flats}
 use Rattle.names.proofs.Named.{areBrief, flats-brief}
 use Rattle.notes.specs.declared.note.Note.{Note}
 use Rattle.candidates.specs.Candidates.{chord, over, line, lines}
