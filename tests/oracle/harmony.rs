@@ -73,7 +73,7 @@ fn in_a_dominant_chord(degree: u8) -> u8 {
 
 pub fn element(root: Note, bass: Option<Note>, classes: PcSet) -> String {
     let intervals: IntervalSet = classes.into();
-    let kind = Kind::of(shown::quality(classes));
+    let kind = Kind::of(shown::quality(classes, intervals));
     let mut text = String::with_capacity(USUAL);
     text.push_str("<harmony>");
     put_note(&mut text, ["root", "root-step", "root-alter"], root);

@@ -77,7 +77,7 @@ fn candidate_parts(list: &[i64]) -> Answer {
         let bass = of.bass.map_or(NO_BASS, i64::from);
         format!("{} {bass} {}", of.root, of.set)
     };
-    let parts = parts::of_candidates(&codes(list)?)?;
+    let parts = parts::of_descriptors(&codes(list)?)?;
     Ok(parts.iter().map(told).collect::<Vec<_>>().join("\t"))
 }
 

@@ -4,9 +4,8 @@ use crate::chord::interval::{IntervalSet, THIRDS_SET};
 use crate::chord::quality::{ChordQuality, Pc, PcSet};
 use crate::inference::normalize::normalized_descriptor;
 
-/// Where the set has no third, it is that of the set with one.
-pub fn quality(mut classes: PcSet) -> ChordQuality {
-    let intervals: IntervalSet = classes.into();
+/// Of the set and its intervals; where there is no third among these, it is that of the set with one.
+pub fn quality(mut classes: PcSet, intervals: IntervalSet) -> ChordQuality {
     if intervals.intersection(&THIRDS_SET).is_empty() {
         classes.insert(Pc::Pc4);
     }
@@ -14,5 +13,6 @@ pub fn quality(mut classes: PcSet) -> ChordQuality {
 }
 
 pub fn suffix(classes: PcSet) -> String {
-    normalized_descriptor(classes.into(), quality(classes))
+    let intervals = classes.into();
+    normalized_descriptor(intervals, quality(classes, intervals))
 }
