@@ -9,7 +9,7 @@
  * Accidentals: the count of sharps, -6..6; flats are negative, 0 is none.
  *
  * No call allocates, keeps state or calls back: any thread may make any call at any time. Of the
- * stack harmony takes at most 1.5 KiB, candidates at most 0.8 KiB, and any other call at most
+ * stack harmony takes at most 1.4 KiB, candidates at most 0.8 KiB, and any other call at most
  * 0.6 KiB.
  */
 #ifndef HEMOTUSAP_H
@@ -145,7 +145,7 @@ int64_t hemotusap_candidate_count(const uint8_t *codes, size_t count);
 int64_t hemotusap_candidate(const uint8_t *codes, size_t count, uint32_t number);
 
 /* The parts of what hemotusap_candidate answers, as hemotusap_harmony takes them: no bass is
- * NO_BASS. The set is 0 for no candidate alone. */
+ * NO_BASS. Of an answer of 0 the set is 0, and of no other. */
 static inline uint32_t hemotusap_candidate_root(int64_t candidate)
 {
     return candidate >> 12 & 15;
@@ -173,8 +173,8 @@ static inline uint32_t hemotusap_candidate_set(int64_t candidate)
  * The alter of a root or bass without an accidental is left out. A bass that is given is written,
  * also where it is the root or none of the set's classes. The kind is that of the quality which the
  * suffix shows: major, major-sixth, major-seventh, dominant, minor, minor-sixth, minor-seventh,
- * major-minor, augmented, diminished or diminished-seventh. The set is read as intervals, as tones
- * reads it, and each whose class is no tone of the kind becomes a degree of type "add", the
+ * major-minor, augmented, diminished or diminished-seventh. The set is read as intervals, as by
+ * hemotusap_tones, and each whose class is no tone of the kind becomes a degree of type "add", the
  * narrowest first. It is numbered by its name (b5 is 5, #11 is 11), and its alter is counted from
  * that degree of a dominant chord, in which 7 is the minor seventh. Behind these each tone of the
  * kind that the set has not becomes a degree of type "subtract" with alter 0, the lowest first. So
