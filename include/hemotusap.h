@@ -9,7 +9,8 @@
  * Accidentals: the count of sharps, -6..6; flats are negative, 0 is none.
  *
  * No call allocates, keeps state or calls back: any thread may make any call at any time. Of the
- * stack candidates take at most 0.8 KiB, and any other call at most 0.6 KiB.
+ * stack harmony takes at most 1.4 KiB, candidates at most 0.8 KiB, and any other call at most
+ * 0.6 KiB.
  */
 #ifndef HEMOTUSAP_H
 #define HEMOTUSAP_H
@@ -90,10 +91,11 @@ enum hemotusap_room {
     HEMOTUSAP_TONES_ROOM = 34,
     HEMOTUSAP_CANDIDATES_ROOM = 840,
     HEMOTUSAP_NOTE_TEXT_ROOM = 7,
-    HEMOTUSAP_VOICING_ROOM = 35
+    HEMOTUSAP_VOICING_ROOM = 35,
+    HEMOTUSAP_HARMONY_ROOM = 1147
 };
 
-/* What a voicing takes for no bass and for no lead; every lead above 255 is none. */
+/* What a call takes for no bass, and a voicing for no lead; every lead above 255 is none. */
 enum hemotusap_none {
     HEMOTUSAP_NO_BASS = 255,
     HEMOTUSAP_NO_LEAD = 256
@@ -134,6 +136,51 @@ int64_t hemotusap_candidates(const uint8_t *codes, size_t count, uint8_t *out, s
 
 /* The number of candidates of a list, which is that of its classes: 0..12. Never refuses. */
 int64_t hemotusap_candidate_count(const uint8_t *codes, size_t count);
+
+/* A candidate of a list by its number from 0, in the order in which hemotusap_candidates writes
+ * them: the class of its root, 0..11; the class of its bass, which is the first code's, or 15 for
+ * none, which the first candidate has; and the list's classes as a set seen from that root. Answers
+ * 65536 * bass + 4096 * root + set, which the three functions below take apart, or 0 where there
+ * is no such candidate. Never refuses. */
+int64_t hemotusap_candidate(const uint8_t *codes, size_t count, uint32_t number);
+
+/* The parts of what hemotusap_candidate answers, as hemotusap_harmony takes them: no bass is
+ * NO_BASS. Of an answer of 0 the set is 0, and of no other. */
+static inline uint32_t hemotusap_candidate_root(int64_t candidate)
+{
+    return candidate >> 12 & 15;
+}
+
+static inline uint32_t hemotusap_candidate_bass(int64_t candidate)
+{
+    uint32_t bass = candidate >> 16 & 15;
+    if (bass == 15)
+        return HEMOTUSAP_NO_BASS;
+    return bass;
+}
+
+static inline uint32_t hemotusap_candidate_set(int64_t candidate)
+{
+    return candidate & 4095;
+}
+
+/* Writes a chord as one harmony element of MusicXML 4.0: a set that holds class 0, on the root of
+ * class `root` and over the bass of class `bass`, each 0..11 (C Db D Eb E F Gb G Ab A Bb B), or
+ * with no bass. Its parts are root, kind, bass and degrees, with no white space, as in
+ *
+ *     <harmony><root><root-step>C</root-step></root><kind>major</kind></harmony>
+ *
+ * The alter of a root or bass without an accidental is left out. A bass that is given is written,
+ * also where it is the root or none of the set's classes. The kind is that of the quality which the
+ * suffix shows: major, major-sixth, major-seventh, dominant, minor, minor-sixth, minor-seventh,
+ * major-minor, augmented, diminished or diminished-seventh. The set is read as intervals, as by
+ * hemotusap_tones, and each whose class is no tone of the kind becomes a degree of type "add", the
+ * narrowest first. It is numbered by its name (b5 is 5, #11 is 11), and its alter is counted from
+ * that degree of a dominant chord, in which 7 is the minor seventh. Behind these each tone of the
+ * kind that the set has not becomes a degree of type "subtract" with alter 0, the lowest first. So
+ * nothing is lost: the kind's tones, less the subtracted, with the added, are the set. Answers the
+ * bytes written, 74..1147; no NUL follows them. Refuses: NOT_A_SET, BAD_CLASS, NO_ROOM. */
+int64_t hemotusap_harmony(uint32_t root, uint32_t bass, uint32_t set, uint8_t *out, size_t room);
 
 /* Writes a note's name: its letter, then '#' or 'b' once per accidental. Answers the bytes
  * written, 1..7; no NUL follows them. Refuses: BAD_NOTE, NO_ROOM. */

@@ -90,6 +90,18 @@ constexpr bool operator==(note a, note b) noexcept {
 }
 constexpr bool operator!=(note a, note b) noexcept { return !(a == b); }
 
+// A chord on its root, as a candidate is and as a harmony element holds it.
+struct chord {
+    std::uint32_t root;                // a class, 0..11
+    std::optional<std::uint32_t> bass; // a class too, where there is a slash
+    std::uint32_t set;                 // seen from the root
+};
+
+constexpr bool operator==(const chord &a, const chord &b) noexcept {
+    return a.root == b.root && a.bass == b.bass && a.set == b.set;
+}
+constexpr bool operator!=(const chord &a, const chord &b) noexcept { return !(a == b); }
+
 // Room in which every answer fits, for an array of the caller's.
 inline constexpr std::size_t suffix_room = HEMOTUSAP_SUFFIX_ROOM;
 inline constexpr std::size_t listing_room = HEMOTUSAP_LISTING_ROOM;
@@ -97,6 +109,7 @@ inline constexpr std::size_t tones_room = HEMOTUSAP_TONES_ROOM;
 inline constexpr std::size_t candidates_room = HEMOTUSAP_CANDIDATES_ROOM;
 inline constexpr std::size_t note_text_room = HEMOTUSAP_NOTE_TEXT_ROOM;
 inline constexpr std::size_t voicing_room = HEMOTUSAP_VOICING_ROOM;
+inline constexpr std::size_t harmony_room = HEMOTUSAP_HARMONY_ROOM;
 
 // Values that someone else owns, as std::span has them in C++20.
 template <class T>
@@ -271,6 +284,29 @@ inline result<std::string_view> candidates(range<const std::uint8_t> codes,
 
 inline std::size_t candidate_count(range<const std::uint8_t> codes) noexcept {
     return static_cast<std::size_t>(hemotusap_candidate_count(codes.data(), codes.size()));
+}
+
+// None where the list has no candidate of this number.
+inline std::optional<chord> candidate(range<const std::uint8_t> codes,
+                                      std::uint32_t number) noexcept {
+    const std::int64_t packed = hemotusap_candidate(codes.data(), codes.size(), number);
+    if (packed == 0)
+        return std::nullopt;
+    chord found{hemotusap_candidate_root(packed), std::nullopt, hemotusap_candidate_set(packed)};
+    if (const std::uint32_t bass = hemotusap_candidate_bass(packed); bass != HEMOTUSAP_NO_BASS)
+        found.bass = bass;
+    return found;
+}
+
+inline result<std::string_view> harmony(std::uint32_t root, std::optional<std::uint32_t> bass,
+                                        std::uint32_t set, range<char> out) noexcept {
+    return detail::written<std::string_view>(
+        out, hemotusap_harmony(root, detail::bass_number(bass), set, detail::bytes(out.data()),
+                               out.size()));
+}
+
+inline result<std::string_view> harmony(const chord &named, range<char> out) noexcept {
+    return harmony(named.root, named.bass, named.set, out);
 }
 
 inline result<std::string_view> note_text(note named, range<char> out) noexcept {

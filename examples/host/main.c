@@ -26,6 +26,19 @@ static void symbols(void)
     show("suffix of 4096", hemotusap_suffix(4096, name, sizeof name), name);
 }
 
+/* Each candidate by its number, up to the one that is not there. */
+static void elements(void)
+{
+    static const uint8_t keys[] = {60, 64, 67};
+    uint8_t element[HEMOTUSAP_HARMONY_ROOM];
+    int64_t found;
+    for (uint32_t at = 0; (found = hemotusap_candidate(keys, sizeof keys, at)) != 0; at++)
+        show("in MusicXML",
+             hemotusap_harmony(hemotusap_candidate_root(found), hemotusap_candidate_bass(found),
+                               hemotusap_candidate_set(found), element, sizeof element),
+             element);
+}
+
 /* A set has two bytes, the higher one first. */
 static void sets(void)
 {
@@ -78,6 +91,7 @@ int main(void)
 {
     symbols();
     sets();
+    elements();
     qualities();
     notes();
     show_voicing("CMa7", HEMOTUSAP_NO_BASS, HEMOTUSAP_NO_LEAD);

@@ -54,6 +54,14 @@ void symbols() {
     show("sets of 7(b13)", hemotusap::listing("7(b13)", sets)); // 1297 1425 3345 3473
 }
 
+// Each candidate by its number, up to the one that is not there.
+void elements() {
+    const std::array<std::uint8_t, 3> keys{60, 64, 67};
+    char element[hemotusap::harmony_room];
+    for (std::uint32_t at = 0; const auto chord = hemotusap::candidate(keys, at); at++)
+        show("in MusicXML", hemotusap::harmony(*chord, element));
+}
+
 void qualities() {
     if (const auto quality = hemotusap::quality(145))
         std::printf("145 is %s\n", *quality == hemotusap::chord_quality::maj ? "major" : "another");
@@ -81,6 +89,7 @@ void voicings() {
 
 int main() {
     symbols();
+    elements();
     qualities();
     notes();
     voicings();

@@ -4,17 +4,16 @@
 use std::borrow::Cow;
 use std::ops::RangeInclusive;
 
-use crate::chord::interval::{IntervalSet, THIRDS_SET};
-use crate::chord::quality::{ChordQuality, Pc, PcSet};
+use crate::chord::quality::{ChordQuality, PcSet};
 use crate::host;
 use crate::inference::descriptors_from_midi_codes;
-use crate::inference::normalize::normalized_descriptor;
+use crate::shown;
 use crate::turns::{Times, in_turns};
 
 /// More than any answer takes.
-const ROOM: usize = 1024;
+pub const ROOM: usize = 1200;
 
-fn text(out: &[u8], length: i64) -> Cow<'_, str> {
+pub fn text(out: &[u8], length: i64) -> Cow<'_, str> {
     let length = usize::try_from(length).expect("the library refuses none of these");
     String::from_utf8_lossy(&out[..length])
 }
@@ -41,7 +40,7 @@ pub struct Set {
     codes: Vec<u8>,
 }
 
-fn set(number: u32) -> Set {
+pub fn set(number: u32) -> Set {
     let codes: Vec<u8> = (0..12).filter(|at| number >> at & 1 == 1).collect();
     Set {
         number,
@@ -66,12 +65,7 @@ pub fn rooted_of(classes: RangeInclusive<usize>) -> Vec<Set> {
 
 /// What `descriptors_from_midi_codes` does for one root, its name aside.
 pub fn of_one_root(set: &Set) -> String {
-    let mut classes = set.classes;
-    let intervals: IntervalSet = classes.into();
-    if intervals.intersection(&THIRDS_SET).is_empty() {
-        classes.insert(Pc::Pc4);
-    }
-    normalized_descriptor(intervals, (&classes).into())
+    shown::suffix(set.classes)
 }
 
 /// The Rust's public way to a suffix: all candidates, of which the first is `C` and the suffix.
@@ -82,7 +76,11 @@ fn of_first_candidate(set: &Set) -> String {
 }
 
 pub fn suffix(classes: RangeInclusive<usize>) -> Times {
-    suffix_beside(of_one_root, &rooted_of(classes))
+    suffix_of(&rooted_of(classes))
+}
+
+pub fn suffix_of(sets: &[Set]) -> Times {
+    suffix_beside(of_one_root, sets)
 }
 
 pub fn suffix_beside_public_call() -> Times {

@@ -1,9 +1,14 @@
 //! The library, through the boundary that include/hemotusap.h declares.
 
+/// What the boundary takes for no bass.
+pub const NO_BASS: u32 = 255;
+
 unsafe extern "C" {
     fn hemotusap_suffix(set: u32, out: *mut u8, room: usize) -> i64;
     fn hemotusap_listing(suffix: *const u8, length: usize, out: *mut u8, room: usize) -> i64;
     fn hemotusap_candidates(codes: *const u8, count: usize, out: *mut u8, room: usize) -> i64;
+    fn hemotusap_candidate(codes: *const u8, count: usize, number: u32) -> i64;
+    fn hemotusap_harmony(root: u32, bass: u32, set: u32, out: *mut u8, room: usize) -> i64;
     fn hemotusap_voicing(
         root: u32,
         bass: u32,
@@ -41,7 +46,17 @@ pub fn candidates(codes: &[u8], out: &mut [u8]) -> i64 {
     unsafe { hemotusap_candidates(codes.as_ptr(), codes.len(), out.as_mut_ptr(), out.len()) }
 }
 
-/// A chord as the boundary takes it.
+#[inline]
+pub fn candidate(codes: &[u8], number: u32) -> i64 {
+    unsafe { hemotusap_candidate(codes.as_ptr(), codes.len(), number) }
+}
+
+#[inline]
+pub fn harmony(root: u32, bass: u32, set: u32, out: &mut [u8]) -> i64 {
+    unsafe { hemotusap_harmony(root, bass, set, out.as_mut_ptr(), out.len()) }
+}
+
+/// A chord as the boundary's voicing takes it.
 pub struct Chord {
     pub root: u32,
     pub bass: u32,

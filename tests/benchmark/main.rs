@@ -6,6 +6,9 @@
 mod chord;
 mod chords;
 mod draws;
+mod elements;
+#[path = "../oracle/harmony.rs"]
+mod harmony;
 mod host;
 #[allow(dead_code)]
 #[path = "../../docs/src/src/inference/mod.rs"]
@@ -17,8 +20,13 @@ mod notes;
 #[allow(dead_code)]
 #[path = "../oracle/stand-ins/parsing.rs"]
 mod parsing;
+#[allow(dead_code)]
+#[path = "../oracle/parts.rs"]
+mod parts;
 #[path = "../oracle/records.rs"]
 mod records;
+#[path = "../oracle/shown.rs"]
+mod shown;
 mod turns;
 mod voiced;
 #[path = "../../docs/src/src/voicings/mod.rs"]
@@ -42,7 +50,9 @@ fn main() {
     println!("nanoseconds per call                          Rust     Hemotusap     ratio");
     calls();
     println!("\nby the number of classes, each as Rust, Hemotusap, ratio");
-    println!("          candidates               suffix              listing              voicing");
+    println!(
+        "          candidates               suffix              listing              voicing              harmony"
+    );
     for classes in 1..=12 {
         by_classes(classes);
     }
@@ -61,6 +71,12 @@ fn calls() {
     row(
         "suffix, the Rust by its public call",
         chords::suffix_beside_public_call(),
+    );
+    row("suffix, 4,096 drawn sets", elements::suffix());
+    row("harmony, on drawn roots and basses", elements::harmony());
+    row(
+        "candidate and harmony, 1 to 10 codes",
+        elements::of_lists(&Draws(1).lists_up_to(1_000, 10)),
     );
     row("listing, all 1,171 suffixes", listings::every_suffix());
     row("listing, texts that no set has", listings::no_suffix());
@@ -84,6 +100,7 @@ fn by_classes(classes: usize) {
         chords::suffix(classes..=classes),
         listings::suffixes_of(classes),
         voiced::of_tones(classes..=classes),
+        elements::of_classes(classes..=classes),
     ] {
         print!("{rust:>9.0}{ours:>7.0}{:>5.1}", rust / ours);
     }

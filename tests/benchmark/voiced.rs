@@ -14,7 +14,6 @@ use crate::voicings::generate_voicing;
 /// More than a voicing has.
 const ROOM: usize = 64;
 
-const NO_BASS: u32 = 255;
 const NO_LEAD: u32 = 256;
 
 /// A chord and its lead, as the Rust takes them and as the library does.
@@ -41,7 +40,7 @@ fn voiced(set: &Set, draws: &mut Draws) -> Voiced {
     let record = records::of_set(root, bass, set.classes);
     let ours = host::Chord {
         root: root.to_semitone().into(),
-        bass: bass.map_or(NO_BASS, |bass| bass.to_semitone().into()),
+        bass: bass.map_or(host::NO_BASS, |bass| bass.to_semitone().into()),
         classes: records::classes(&record),
         intervals: records::intervals(&record),
         lead: lead.map_or(NO_LEAD, u32::from),

@@ -30,6 +30,7 @@
 #define ANY(low, high) {low, high, 1, 0}
 #define EVEN(low, high) {low, high, 2, 0}
 #define NOTE {0, 16 * 6 + 12, 16, 12}
+#define CHORD {0, 65536 * 15 + 4096 * 11 + 4095, 65536, 4096 * 11 + 4095}
 #define REFUSAL(name) {HEMOTUSAP_##name, 0}
 #define PLACED(name, places) {HEMOTUSAP_##name, places}
 #define NEVER {NO_REFUSAL, 0}

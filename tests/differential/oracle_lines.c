@@ -3,6 +3,7 @@
 #include <stdlib.h>
 #include <string.h>
 
+#include "length.h"
 #include "notes.h"
 #include "run.h"
 
@@ -58,4 +59,20 @@ struct lines lines_in(const char *line)
             lines.count++;
         }
     return lines;
+}
+
+struct parts parts_in(const char *line)
+{
+    struct parts parts = {.count = 0};
+    const char *end = line + strlen(line);
+    for (const char *from = line; from < end;) {
+        int64_t root = read_number(line, from, ' ', &from);
+        int64_t bass = read_number(line, from, ' ', &from);
+        int64_t set = read_number(line, from, strchr(from, '\t') == NULL ? '\0' : '\t', &from);
+        if (parts.count == LENGTH(parts.packed))
+            fail("the oracle's line `%s` has more candidates than there are classes", line);
+        bass = bass == HEMOTUSAP_NO_BASS ? 15 : bass;
+        parts.packed[parts.count++] = 65536 * bass + 4096 * root + set;
+    }
+    return parts;
 }

@@ -28,4 +28,13 @@ struct lines {
 /* Candidates with a tab between; an empty line holds none. */
 struct lines lines_in(const char *line);
 
+/* What each candidate is made of, as the library hands it back. */
+struct parts {
+    uint32_t count;
+    int64_t packed[12];
+};
+
+/* `ROOT BASS SET` of each, a tab between; an empty line holds none. */
+struct parts parts_in(const char *line);
+
 #endif

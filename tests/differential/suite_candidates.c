@@ -1,11 +1,12 @@
-/* candidates and candidate_count, by the oracle: every set of classes with every first class, long
-   lists, and drawn ones, of which there are as many as the command says. */
+/* candidates, candidate_count and candidate, by the oracle: every set of classes with every first
+   class, long lists, and drawn ones, of which there are as many as the command says. */
 #include <stdbool.h>
 #include <string.h>
 
 #include "draw.h"
 #include "length.h"
 #include "lists.h"
+#include "numbers_above.h"
 #include "oracle_lines.h"
 #include "suite.h"
 #include "written.h"
@@ -30,7 +31,7 @@ static void in_some_rooms(struct run *run, const struct range *list, const struc
         expect_written_in(run, call, want->text, want->length, rooms[at]);
 }
 
-static void one_list(struct run *run, struct range list, bool every_room, uint64_t state)
+static void lines_of(struct run *run, struct range list, bool every_room, uint64_t state)
 {
     const char *answer = oracle_answer(run, CALL_ON(candidates, &list));
     if (answer == NULL)
@@ -40,6 +41,36 @@ static void one_list(struct run *run, struct range list, bool every_room, uint64
         in_every_room(run, &list, &want);
     in_some_rooms(run, &list, &want, state);
     expect_number(run, CALL_ON(candidate_count, &list), want.count);
+}
+
+static void expect_candidate(struct run *run, const struct range *list, int64_t number,
+                             int64_t want)
+{
+    struct call call = *CALL_ON(candidate, list);
+    call.numbers = &number;
+    call.count = 1;
+    expect_number(run, &call, want);
+}
+
+/* Every number up to one past the last, and any beyond; the oracle holds the parts to the lines. */
+static void parts_of(struct run *run, struct range list, uint64_t state)
+{
+    struct call asked = *CALL_ON(candidate, &list);
+    asked.name = "candidate_parts";
+    const char *answer = oracle_answer(run, &asked);
+    if (answer == NULL)
+        return;
+    struct parts want = parts_in(answer);
+    for (uint32_t number = 0; number < want.count; number++)
+        expect_candidate(run, &list, number, want.packed[number]);
+    expect_candidate(run, &list, want.count, 0);
+    expect_candidate(run, &list, want.count + draw_below(&state, UINT32_MAX - want.count), 0);
+}
+
+static void one_list(struct run *run, struct range list, bool every_room, uint64_t state)
+{
+    lines_of(run, list, every_room, state);
+    parts_of(run, list, state);
 }
 
 static void set_with_first(struct run *run, uint32_t set, unsigned first)
@@ -98,6 +129,22 @@ static void the_papers_list(struct run *run)
     memcpy(want.text, text, want.length);
     in_every_room(run, &list, &want);
     expect_number(run, CALL_ON(candidate_count, &list), want.count);
+    expect_candidate(run, &list, 0, 15 * 65536 + 0 * 4096 + 145);
+    expect_candidate(run, &list, 1, 0 * 65536 + 4 * 4096 + 265);
+    expect_candidate(run, &list, 2, 0 * 65536 + 7 * 4096 + 545);
 }
 
-const struct suite candidates_suite = {"candidates", every_list, the_papers_list};
+/* Of a list of all classes, so that a number cut to fewer bits would be one of its candidates. */
+static void expect_no_candidate(struct run *run, int64_t number)
+{
+    struct list all = list_of_set(ALL_CLASSES, 0);
+    expect_candidate(run, &(const struct range){all.codes, all.length}, number, 0);
+}
+
+static void stated_candidates(struct run *run)
+{
+    the_papers_list(run);
+    numbers_above(run, CLASSES, expect_no_candidate);
+}
+
+const struct suite candidates_suite = {"candidates", every_list, stated_candidates};

@@ -64,6 +64,9 @@ void refusals() {
     EXPECT(get_note({}, 0, 15).error() == refusal::bad_move);
     EXPECT(listing("7(b13)", room(keys, 7)).error() == refusal::no_room);
     EXPECT(candidates(zeros, {}).error() == refusal::no_room);
+    EXPECT(harmony(0, {}, 2, text).error() == refusal::not_a_set);
+    EXPECT(harmony(12, {}, 1, text).error() == refusal::bad_class);
+    EXPECT(harmony(0, {}, 145, text).error() == refusal::no_room);
     EXPECT(name(refusal::no_room) == "no room" && name(refusal{}) == "none");
 }
 
@@ -84,10 +87,27 @@ void edges() {
     EXPECT(*transpose({letter::C, 0}, {letter::E, -1}, {letter::G, 0}) == (note{letter::B, -1}));
 }
 
+// From keys to elements: the first candidate has no bass, and behind the last there is none.
+void elements() {
+    const std::uint8_t keys[] = {64, 60, 67, 72};
+    char one[harmony_room], other[harmony_room];
+    EXPECT(candidate(keys, 0) == (chord{4, {}, 265}) && candidate(keys, 1) == (chord{0, 4, 145}));
+    EXPECT(candidate(keys, 1) != candidate(keys, 2) && candidate(keys, 2)->bass == 4u);
+    EXPECT(!candidate(keys, 3) && !candidate(keys, UINT32_MAX) && !candidate({}, 0));
+    EXPECT(candidate(bytes(keys, 1), 0) == (chord{4, {}, 1}));
+    EXPECT(*harmony(0, {}, 145, one) == "<harmony><root><root-step>C</root-step></root>"
+                                        "<kind>major</kind></harmony>");
+    EXPECT(*harmony(0, 4, 145, one) == *harmony(*candidate(keys, 1), other));
+    EXPECT(*harmony(0, 0, 145, one) != *harmony(0, {}, 145, other));
+    EXPECT(harmony(0, 255, 145, one).error() == refusal::bad_class);
+    EXPECT(harmony(chord{0, 12, 145}, one).error() == refusal::bad_class);
+}
+
 } // namespace
 
 int main() {
     refusals();
     edges();
+    elements();
     return failures == 0 ? 0 : 1;
 }

@@ -7,6 +7,7 @@ use std::process::ExitCode;
 #[allow(dead_code)]
 #[path = "../../docs/src/src/chord/mod.rs"]
 mod chord;
+mod harmony;
 #[allow(dead_code)]
 #[path = "../../docs/src/src/inference/mod.rs"]
 mod inference;
@@ -14,8 +15,10 @@ mod notes;
 mod numbers;
 #[path = "stand-ins/parsing.rs"]
 mod parsing;
+mod parts;
 mod records;
 mod requests;
+mod shown;
 mod tones;
 #[path = "../../docs/src/src/voicings/mod.rs"]
 mod voicings;

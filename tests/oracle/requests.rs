@@ -3,13 +3,15 @@
 //! - `quality SET`: the quality's number, in the order of quality.rs
 //! - `suffix SET`: what stands behind the root's name for a rooted set
 //! - `candidates N CODE..`: the descriptors, a tab between
+//! - `candidate_parts N CODE..`: of each of them `ROOT BASS SET`, a tab between
 //! - `tones ROOT SET`: the notes of a rooted set's intervals, a space between
 //! - `get_note LETTER COUNT SEMITONES DEGREE`: `LETTER COUNT`
 //! - `transpose FROM.. NOTE.. TO..`, each `LETTER COUNT`: `LETTER COUNT`
-//! - `voicing ROOT BASS LEAD N CLASS.. M INTERVAL..` (bass 255, lead above 255: none): the keys, a space between
+//! - `harmony ROOT BASS SET`: the element of MusicXML
+//! - `voicing ROOT BASS LEAD N CLASS.. M INTERVAL..` (a lead above 255 is none): the keys, a space between
 //! - `set_voicing ROOT BASS LEAD SET`: `N CLASS.. M INTERVAL..` of the chord of a rooted set, then its keys
 //!
-//! A count of 0 is no modifier, in requests and in answers.
+//! A count of 0 is no modifier and a bass of 255 none, in requests and in answers.
 
 use crate::chord::Chord;
 use crate::chord::interval::{Interval, IntervalSet};
@@ -18,7 +20,7 @@ use crate::chord::quality::{ChordQuality, PcSet};
 use crate::inference::descriptors_from_midi_codes;
 use crate::numbers::{behind_count, below, byte, bytes, counted, end_of, number, spaced, unless};
 use crate::voicings::generate_voicing;
-use crate::{notes, records, tones};
+use crate::{harmony, notes, parts, records, tones};
 
 type Answer = Result<String, String>;
 
@@ -33,7 +35,9 @@ pub fn answer(request: &str) -> Answer {
         ("quality", &[set]) => quality(set),
         ("suffix", &[set]) => suffix(set),
         ("candidates", list) => candidates(list),
+        ("candidate_parts", list) => candidate_parts(list),
         ("tones", &[root, set]) => tones(root, set),
+        ("harmony", &[root, bass, set]) => harmony(root, bass, set),
         ("get_note", &[letter, count, semitones, degree]) => {
             get_note(note(letter, count)?, semitones, degree)
         }
@@ -65,14 +69,34 @@ fn suffix(set: i64) -> Answer {
 }
 
 fn candidates(list: &[i64]) -> Answer {
+    Ok(descriptors_from_midi_codes(&codes(list)?).join("\t"))
+}
+
+fn candidate_parts(list: &[i64]) -> Answer {
+    let told = |of: &parts::Parts| {
+        let bass = of.bass.map_or(NO_BASS, i64::from);
+        format!("{} {bass} {}", of.root, of.set)
+    };
+    let parts = parts::of_descriptors(&codes(list)?)?;
+    Ok(parts.iter().map(told).collect::<Vec<_>>().join("\t"))
+}
+
+fn codes(list: &[i64]) -> Result<Vec<u8>, String> {
     let (codes, behind) = counted(list)?;
     end_of(behind)?;
-    Ok(descriptors_from_midi_codes(&bytes(codes)?).join("\t"))
+    bytes(codes)
 }
 
 fn tones(root: i64, set: i64) -> Answer {
     let set = pc_set(&rooted_classes_in(set)?);
     tones::tones(below(12, root)? as u8, set)
+}
+
+fn harmony(root: i64, bass: i64, set: i64) -> Answer {
+    let named = |class| notes::named(byte(class)?);
+    let bass = unless(NO_BASS, bass).map(named).transpose()?;
+    let set = pc_set(&rooted_classes_in(set)?);
+    Ok(harmony::element(named(root)?, bass, set))
 }
 
 fn get_note(from: Note, semitones: i64, degree: i64) -> Answer {

@@ -1,25 +1,31 @@
 /* Lists the wrong calls, a line each: the function, its fault, and who has to find it, which is the
-   function's suite, the fuzzer or the threads. */
-#include "functions.h"
+   function's suite, the fuzzer, the threads or, of harmony, the reader of MusicXML. */
 #include "length.h"
+#include "own_faults.h"
 
 static const struct fault {
     const char *name;
     bool of_refusals; /* of functions that refuse, */
     bool of_outputs;  /* and of those that write */
     bool is_seen;     /* by the fuzzer, which has no oracle */
+    bool is_read;     /* by the reader, which sees the answer alone */
 } faults[] = {
-    {"one_more", false, false, false},
-    {"refuses_always", false, false, false},
-    {"now_and_then", false, false, true},
-    {"other_refusal", true, false, false},
-    {"first_byte", false, true, false},
-    {"last_byte", false, true, false},
-    {"behind_the_answer", false, true, true},
-    {"behind_the_room", false, true, true},
-    {"before_the_room", false, true, true},
-    {"after_a_refusal", true, true, true},
+    {"one_more", false, false, false, true},
+    {"refuses_always", false, false, false, true},
+    {"now_and_then", false, false, true, true},
+    {"other_refusal", true, false, false, false},
+    {"first_byte", false, true, false, true},
+    {"last_byte", false, true, false, true},
+    {"behind_the_answer", false, true, true, false},
+    {"behind_the_room", false, true, true, false},
+    {"before_the_room", false, true, true, false},
+    {"after_a_refusal", true, true, true, false},
 };
+
+static bool is_read(const struct function *function)
+{
+    return function == &functions[FUNCTION_harmony];
+}
 
 static void list(const struct function *function, const struct fault *fault)
 {
@@ -30,6 +36,17 @@ static void list(const struct function *function, const struct fault *fault)
     printf("%s %s %s\n", function->name, fault->name, function->suite);
     if (fault->is_seen)
         printf("%s %s fuzzer\n", function->name, fault->name);
+    if (fault->is_read && is_read(function))
+        printf("%s %s musicxml\n", function->name, fault->name);
+}
+
+static void list_own(const struct function *function)
+{
+    for (const struct own_fault *own = own_faults(function); own->name != NULL; own++) {
+        printf("%s %s %s\n", function->name, own->name, function->suite);
+        if (own->is_read)
+            printf("%s %s musicxml\n", function->name, own->name);
+    }
 }
 
 /* The note and `to` count alike in a transposition, note + to - from: no answer of the whole domain
@@ -55,6 +72,7 @@ int main(void)
     for (unsigned function = 0; function < FUNCTIONS; function++) {
         for (unsigned fault = 0; fault < LENGTH(faults); fault++)
             list(&functions[function], &faults[fault]);
+        list_own(&functions[function]);
         list_swapped(&functions[function]);
     }
     printf("%s by_a_shared_buffer threads\n", functions[FUNCTION_suffix].name);

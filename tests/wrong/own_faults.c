@@ -1,0 +1,40 @@
+#include "own_faults.h"
+
+#include <string.h>
+
+enum { MOST_TEXT = 4096 }; /* an edit may lengthen it */
+
+const struct own_fault *own_faults(const struct function *function)
+{
+    static const struct own_fault none[] = {{.name = NULL}};
+    if (function == &functions[FUNCTION_harmony])
+        return faults_of_harmony;
+    if (function == &functions[FUNCTION_candidate])
+        return faults_of_candidate;
+    return none;
+}
+
+/* Edited where there is room for all of it, then written into the call's room. */
+static int64_t call_edited(const struct call *call, uint8_t *out, void (*edit)(char *text))
+{
+    char text[MOST_TEXT];
+    struct call roomy = *call;
+    roomy.room = call->function->answers.high;
+    int64_t got = __real_call_library(&roomy, (uint8_t *)text);
+    if (got < 0)
+        return got;
+    text[got] = '\0';
+    edit(text);
+    got = (int64_t)strlen(text);
+    if (got > call->room)
+        return -HEMOTUSAP_NO_ROOM;
+    memcpy(out, text, (size_t)got);
+    return got;
+}
+
+int64_t call_with(const struct own_fault *fault, const struct call *call, uint8_t *out)
+{
+    if (fault->edit != NULL)
+        return call_edited(call, out, fault->edit);
+    return fault->answer != NULL ? fault->answer(call) : fault->call(call, out);
+}

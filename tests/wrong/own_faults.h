@@ -1,0 +1,30 @@
+/* Faults that one function alone can have. */
+#ifndef OWN_FAULTS_H
+#define OWN_FAULTS_H
+
+#include "functions.h"
+
+struct own_fault {
+    const char *name;
+    bool is_read; /* a reader of what is written finds it too */
+    /* One of the three: the text that was written is edited, another number is given back where
+       none is written, or the call is made otherwise. */
+    void (*edit)(char *text);
+    int64_t (*answer)(const struct call *call);
+    callee *call;
+};
+
+/* Up to one without a name. */
+extern const struct own_fault faults_of_harmony[];
+extern const struct own_fault faults_of_candidate[];
+
+/* The function's own, or none. */
+const struct own_fault *own_faults(const struct function *function);
+
+/* The call with this fault. */
+int64_t call_with(const struct own_fault *fault, const struct call *call, uint8_t *out);
+
+/* The library's call, where the linker has put another in its place. */
+int64_t __real_call_library(const struct call *call, uint8_t *out);
+
+#endif
