@@ -1,20 +1,17 @@
 -- Degrees are read back as they are written.
---     Row, row-of     elements of adds and subtracts: clean, read back, and no bass among them
+--     areRead         a test of degrees
+--     Row, row-of     the elements of such as pass it: clean, read back, and no bass among them
 use Rattle.answer.proofs.Kit.{_≡_, refl, sym, ap, ap₂, _∙_, Bool, true, false, _&&_, List, [], _∷_, _++_, map, ℕ, T, eqb, eqb→eq, ℤ, pos, negsuc}
 use Rattle.answer.specs.Words.{bytes, same}
-use Rattle.answer.proofs.Tests.{left, right, is-true, all}
-use Rattle.intervals.specs.Intervals.{intervals, nth, numbered}
-use Rattle.intervals.specs.declared.interval.Interval.{Interval}
-use Rattle.intervals.proofs.Rows.{at-interval}
+use Rattle.answer.proofs.Tests.{left, right, is-true}
 use Rattle.harmonies.specs.Xml.{Elements, none, element, _then_}
 use Rattle.harmonies.specs.Degrees.{Degree}
-use Rattle.harmonies.specs.Harmony.{addOf, subtractOf, decimal, integer, degree, degrees}
+use Rattle.harmonies.specs.Harmony.{decimal, integer, degree, degrees}
 use Rattle.harmonies.specs.Reading.{textIn, isThere, numberOf, integerOf, degreesIn}
 use Rattle.harmonies.proofs.Parsed.{plain, isName, clean, clean-then}
-use Rattle.harmonies.proofs.Computed.{numbers-computed}
 
 -- two integers are the same
-unfoldable sameℤ : ℤ → ℤ → Bool
+unfoldable pub sameℤ : ℤ → ℤ → Bool
 sameℤ (pos a) (pos b) = eqb a b
 sameℤ (pos a) (negsuc b) = false
 sameℤ (negsuc a) (pos b) = false
@@ -28,18 +25,19 @@ sameℤ→eq (negsuc a) (pos b) t = absurd t
 sameℤ→eq (negsuc a) (negsuc b) t = ap negsuc (eqb→eq a b t)
 
 -- a degree's texts are plain, and give its numbers back
-abbrev texts : Degree → Bool
+abbrev pub texts : Degree → Bool
 texts d = plain (decimal (d .value)) && (plain (integer (d .alter)) && plain (d .type))
 
-abbrev numbers : Degree → Bool
+abbrev pub numbers : Degree → Bool
 numbers d = eqb (numberOf (decimal (d .value))) (d .value) && sameℤ (integerOf (integer (d .alter))) (d .alter)
 
-abbrev reads : Degree → Bool
+abbrev pub reads : Degree → Bool
 reads d = texts d && numbers d
 
-each-reads : (i : Interval) → T (reads (addOf i) && reads (subtractOf i))
-unfolding all intervals nth numbered numbers-computed sameℤ
-each-reads = at-interval (λ i. reads (addOf i) && reads (subtractOf i)) tt
+-- each of some does
+unfoldable pub areRead : List Degree → Bool
+areRead [] = true
+areRead (d ∷ more) = reads d && areRead more
 
 record Good (d : Degree) : Type 0 where
   pub is-clean : T (clean (degree d))
@@ -63,12 +61,6 @@ good d t =
       back = ap₂ (λ (v : ℕ) (a : ℤ). record { value = v; alter = a; type = d .type } ∷ []) value alter;
     }
 
-good-add : (i : Interval) → Good (addOf i)
-good-add i = good (addOf i) (left (reads (addOf i)) (reads (subtractOf i)) (each-reads i))
-
-good-subtract : (i : Interval) → Good (subtractOf i)
-good-subtract i = good (subtractOf i) (right (reads (addOf i)) (reads (subtractOf i)) (each-reads i))
-
 pub record Row (ds : List Degree) : Type 0 where
   pub all-clean : T (clean (degrees ds))
   pub back : degreesIn (degrees ds) ≡ ds
@@ -87,13 +79,7 @@ one-more d ds g r =
       no-bass = r .no-bass;
     }
 
-with-each : (f : Interval → Degree) → ((i : Interval) → Good (f i)) → (some : List Interval) (ds : List Degree) → Row ds → Row (map f some ++ ds)
-with-each f g [] ds r = r
-with-each f g (i ∷ more) ds r = one-more (f i) (map f more ++ ds) (g i) (with-each f g more ds r)
-
-subtracts : (tones : List Interval) → Row (map subtractOf tones)
-subtracts [] = no-row
-subtracts (t ∷ more) = one-more (subtractOf t) (map subtractOf more) (good-subtract t) (subtracts more)
-
-pub row-of : (added subtracted : List Interval) → Row (map addOf added ++ map subtractOf subtracted)
-row-of added subtracted = with-each addOf good-add added _ (subtracts subtracted)
+pub row-of : (ds : List Degree) → T (areRead ds) → Row ds
+unfolding areRead
+row-of [] t = no-row
+row-of (d ∷ more) t = one-more d more (good d (left (reads d) (areRead more) t)) (row-of more (right (reads d) (areRead more) t))

@@ -22,34 +22,34 @@ use Rattle.rules.specs.Classes.{intervalsOf}
 use Rattle.rules.specs.Parts.{hasThird, withThird, suffixQuality}
 use Rattle.harmonies.specs.Xml.{Elements, none, element, _then_, leaf, node}
 use Rattle.harmonies.specs.Degrees.{Degree}
-use Rattle.harmonies.specs.Harmony.{flats, Kind, kindOf, addOf, subtractOf, outside, silent, degreesOf, decimal, integer, pitchOf, rootOf, bassOf, degrees, harmony, harmonyOf}
+use Rattle.harmonies.specs.Harmony.{flats, Kind, kindOf, degreesFrom, degreesOf, decimal, integer, pitchOf, rootOf, bassOf, degrees, harmony, harmonyOf}
 use Rattle.harmonies.specs.Scanning.{elementsOf}
 use Rattle.harmonies.specs.Chords.{tonesOf, sounding}
 use Rattle.harmonies.specs.Reading.{inside, textIn, isThere, classIn, bassIn, degreesIn, Harmony, harmonyIn, readHarmony}
 use Rattle.harmonies.proofs.Parsed.{plain, isName, clean, clean-then, parsed}
-use Rattle.harmonies.proofs.Computed.{pitches-computed, told-computed}
-use Rattle.harmonies.proofs.Degrees.{Row, row-of}
+use Rattle.harmonies.proofs.Computed.{numbers-computed, pitches-computed, told-computed}
+use Rattle.harmonies.proofs.Degrees.{sameℤ, areRead, Row, row-of}
 
 -- how many bytes degrees have: their tags, and what stands between
 unfoldable pub sizes : List Degree → ℕ
 sizes [] = 0
 sizes (d ∷ more) = 102 + length (decimal (d .value)) + length (integer (d .alter)) + length (d .type) + sizes more
 
--- four facts of a set, its quality, its kind and its degrees
+-- five facts of a set, its quality, its kind and its degrees
 abbrev tests : ℕ → ChordQuality → Kind → List Degree → Bool
 tests s q k ds =
     eqb (sounding (tonesOf (k .name)) ds) s
-    && (ltb (qualityNumber q) 11 && (hasAll s (map classOf (k .more)) && leb (length (k .name) + sizes ds) 987))
+    && (areRead ds && (ltb (qualityNumber q) 11 && (hasAll s (map classOf (k .more)) && leb (length (k .name) + sizes ds) 987)))
 
 tells : ℕ → Bool
 tells s =
     let i = intervalsOf s in
     let q = qualityOf (cond (hasThird i) s (s + 2 ^ 4)) in
     let k = kindOf q in
-    tests s q k (map addOf (outside k i) ++ map subtractOf (silent k s))
+    tests s q k (degreesFrom k i s)
 
 all-tell : (s : ℕ) → isRooted s ≡ true → T (tells s)
-unfolding told-computed decimal integer tells sizes
+unfolding told-computed numbers-computed tells sizes areRead sameℤ
 all-tell = at-rooted tells tt
 
 module _ (s : ℕ) (is : isRooted s ≡ true) where
@@ -66,14 +66,20 @@ module _ (s : ℕ) (is : isRooted s ≡ true) where
   abbrev short : Bool
   short = leb (length (shown .name) + sizes (degreesOf s)) 987
 
+  last-four : T (areRead (degreesOf s) && (ltb (qualityNumber (suffixQuality s)) 11 && (others && short)))
+  last-four = right (eqb (sounding (tonesOf (shown .name)) (degreesOf s)) s) _ told
+
   last-three : T (ltb (qualityNumber (suffixQuality s)) 11 && (others && short))
-  last-three = right (eqb (sounding (tonesOf (shown .name)) (degreesOf s)) s) _ told
+  last-three = right (areRead (degreesOf s)) _ last-four
 
   last-two : T (others && short)
   last-two = right (ltb (qualityNumber (suffixQuality s)) 11) (others && short) last-three
 
   pub sounds : sounding (tonesOf (shown .name)) (degreesOf s) ≡ s
   sounds = eqb→eq _ _ (left (eqb (sounding (tonesOf (shown .name)) (degreesOf s)) s) _ told)
+
+  row : Row (degreesOf s)
+  row = row-of (degreesOf s) (left (areRead (degreesOf s)) _ last-four)
 
   pub shown-kind : qualityNumber (suffixQuality s) < 11
   shown-kind = ltb→lt _ _ (left (ltb (qualityNumber (suffixQuality s)) 11) (others && short) last-three)
@@ -148,11 +154,7 @@ unfolding clean
 under-clean Bass.None h = tt
 under-clean (Bass.Class b) h = node-clean (asBass b) (bass-clean b (class-of b h)) .1
 
-row : (s : ℕ) → Row (degreesOf s)
-unfolding degreesOf
-row s = let k = kindOf (suffixQuality s) in row-of (outside k (intervalsOf s)) (silent k s)
-
-module _ (root : ℕ) (b : Bass) (s : ℕ) (hr : root < 12) (hb : isBass b ≡ true) where
+module _ (root : ℕ) (b : Bass) (s : ℕ) (hr : root < 12) (hb : isBass b ≡ true) (is : isRooted s ≡ true) where
   harmony-clean : T (clean (harmony flats root b s))
   unfolding harmony
   harmony-clean =
@@ -161,21 +163,21 @@ module _ (root : ℕ) (b : Bass) (s : ℕ) (hr : root < 12) (hb : isBass b ≡ t
       (clean-then _ _
       (clean-then _ _ (node-clean (asRoot root) (root-clean root hr) .0) (kind-clean (suffixQuality s)))
       (under-clean b hb))
-      (row s .all-clean)) .2
+      (row s is .all-clean)) .2
 
-read-back : (root : ℕ) (b : Bass) (s : ℕ) → root < 12 → isBass b ≡ true
+read-back : (root : ℕ) (b : Bass) (s : ℕ) → root < 12 → isBass b ≡ true → isRooted s ≡ true
     → harmonyIn (inside "harmony" (harmony flats root b s)) ≡ record { root = root; bass = b; set = sounding (tonesOf (kindOf (suffixQuality s) .name)) (degreesOf s) }
 unfolding harmony harmonyIn inside textIn isThere bassIn degreesIn bytes same _then_
-read-back root Bass.None s hr hb = rw (root-back root hr, row s .no-bass, row s .back)
-read-back root (Bass.Class b) s hr hb = rw (root-back root hr, bass-back b (class-of b hb), row s .back)
+read-back root Bass.None s hr hb is = rw (root-back root hr, row s is .no-bass, row s is .back)
+read-back root (Bass.Class b) s hr hb is = rw (root-back root hr, bass-back b (class-of b hb), row s is .back)
 
 -- "for every rooted set, root and bass or none, what is read back from what is written is that root, that bass and that set"
 pub lossless : (root : ℕ) (b : Bass) (s : ℕ) → root < 12 → isBass b ≡ true → isRooted s ≡ true
     → readHarmony (harmonyOf flats root b s) ≡ record { root = root; bass = b; set = s }
 unfolding harmonyOf readHarmony
 lossless root b s hr hb is =
-    ap (λ (e : Elements). harmonyIn (inside "harmony" e)) (parsed (harmony flats root b s) (harmony-clean root b s hr hb))
-    ∙ read-back root b s hr hb
+    ap (λ (e : Elements). harmonyIn (inside "harmony" e)) (parsed (harmony flats root b s) (harmony-clean root b s hr hb is))
+    ∙ read-back root b s hr hb is
     ∙ rw (sounds s is)
 
 -- "So two candidates that differ have different elements"

@@ -91,10 +91,13 @@ outside k found = keep (λ i. not (isIn (classOf i) (map classOf (tones k)))) fo
 unfoldable pub silent : Kind → ℕ → List Interval
 silent k s = keep (λ t. not (has s (classOf t))) (tones k)
 
--- "Adds in rising interval order; then each tone of the kind that doesn't sound as a `subtract`"
+-- "Adds in rising interval order; then each tone of the kind that doesn't sound as a `subtract`": of a kind, the intervals of a set, and the set
+abbrev pub degreesFrom : Kind → List Interval → ℕ → List Degree
+degreesFrom k found s = map addOf (outside k found) ++ map subtractOf (silent k s)
+
+-- the degrees of a set
 unfoldable pub degreesOf : ℕ → List Degree
-degreesOf s =
-    let k = kindOf (suffixQuality s) in map addOf (outside k (intervalsOf s)) ++ map subtractOf (silent k s)
+degreesOf s = degreesFrom (kindOf (suffixQuality s)) (intervalsOf s) s
 
 -- a number below 100 in decimal
 unfoldable pub decimal : ℕ → List ℕ
