@@ -76,10 +76,20 @@ pub fn element(root: Note, bass: Option<Note>, classes: PcSet) -> String {
     let kind = Kind::of(shown::quality(classes, intervals));
     let mut text = String::with_capacity(USUAL);
     text.push_str("<harmony>");
-    put_note(&mut text, ["root", "root-step", "root-alter"], root);
+    put_note(
+        &mut text,
+        ["<root>", "</root>"],
+        ["root-step", "root-alter"],
+        root,
+    );
     put(&mut text, "kind", kind.name);
     if let Some(bass) = bass {
-        put_note(&mut text, ["bass", "bass-step", "bass-alter"], bass);
+        put_note(
+            &mut text,
+            ["<bass>", "</bass>"],
+            ["bass-step", "bass-alter"],
+            bass,
+        );
     }
     for added in intervals.iter().filter(|interval| !kind.has(*interval)) {
         let degree = added.to_degree().numeric();
@@ -100,19 +110,19 @@ fn put(text: &mut String, name: &str, inside: &str) {
     }
 }
 
-fn put_note(text: &mut String, [name, step, alter]: [&str; 3], note: Note) {
-    let mut inside = String::new();
-    put(&mut inside, step, note.literal.as_ref());
+fn put_note(text: &mut String, [open, close]: [&str; 2], [step, alter]: [&str; 2], note: Note) {
+    text.push_str(open);
+    put(text, step, note.literal.as_ref());
     if let Some(modifier) = note.modifier {
-        put(&mut inside, alter, &modifier.0.to_string());
+        put(text, alter, &modifier.0.to_string());
     }
-    put(text, name, &inside);
+    text.push_str(close);
 }
 
 fn put_degree(text: &mut String, value: u8, alter: i8, kind: &str) {
-    let mut inside = String::new();
-    put(&mut inside, "degree-value", &value.to_string());
-    put(&mut inside, "degree-alter", &alter.to_string());
-    put(&mut inside, "degree-type", kind);
-    put(text, "degree", &inside);
+    text.push_str("<degree>");
+    put(text, "degree-value", &value.to_string());
+    put(text, "degree-alter", &alter.to_string());
+    put(text, "degree-type", kind);
+    text.push_str("</degree>");
 }
