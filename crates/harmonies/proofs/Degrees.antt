@@ -1,10 +1,10 @@
 -- Degrees are read back as they are written.
 --     areRead         a test of degrees
 --     Row, row-of     the elements of such as pass it: clean, read back, and no bass among them
-use Rattle.answer.proofs.Kit.{_≡_, refl, sym, ap, ap₂, _∙_, Bool, true, false, _&&_, List, [], _∷_, _++_, map, ℕ, T, eqb, eqb→eq, ℤ, pos, negsuc}
+use Rattle.answer.proofs.Kit.{_≡_, refl, ap, ap₂, Bool, true, false, _&&_, List, [], _∷_, _++_, ℕ, T, eqb, eqb→eq, ℤ, pos, negsuc}
 use Rattle.answer.specs.Words.{bytes, same}
 use Rattle.answer.proofs.Tests.{left, right, is-true}
-use Rattle.harmonies.specs.Xml.{Elements, none, element, _then_}
+use Rattle.harmonies.specs.Xml.{_then_}
 use Rattle.harmonies.specs.Degrees.{Degree}
 use Rattle.harmonies.specs.Harmony.{decimal, integer, degree, degrees}
 use Rattle.harmonies.specs.Reading.{textIn, isThere, numberOf, integerOf, degreesIn}

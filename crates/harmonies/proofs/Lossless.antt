@@ -4,7 +4,7 @@
 --     tail-short      a kind's name and the degrees of a set have no more than 987 bytes
 --     lossless        the theorem
 --     apart           so two elements are the same only where root, bass and set are
-use Rattle.answer.proofs.Kit.{_≡_, ap, sym, _∙_, Bool, true, false, cond, _&&_, List, [], _∷_, _++_, map, ℕ, _+_, _^_, _<_, _≤_, arith, T, eqb, leb, ltb, eqb→eq, leb→le, ltb→lt, length}
+use Rattle.answer.proofs.Kit.{_≡_, ap, sym, _∙_, Bool, true, cond, _&&_, List, [], _∷_, map, ℕ, _+_, _^_, _<_, _≤_, arith, T, eqb, leb, ltb, eqb→eq, leb→le, ltb→lt, length}
 use Rattle.answer.specs.Words.{bytes, same}
 use Rattle.answer.proofs.Tests.{left, right, is-true, said, all, at}
 use Rattle.intervals.specs.Bass.{isBass}
@@ -12,7 +12,6 @@ use Rattle.intervals.specs.Sets.{isRooted, hasAll}
 use Rattle.intervals.specs.Intervals.{classOf}
 use Rattle.intervals.specs.declared.bass.Bass.{Bass}
 use Rattle.intervals.specs.declared.bass.Bass.the-variants as Bass
-use Rattle.intervals.specs.declared.interval.Interval.{Interval}
 use Rattle.intervals.proofs.Rooted.{at-rooted}
 use Rattle.qualities.specs.Qualities.{qualityOf, qualityNumber}
 use Rattle.qualities.specs.declared.quality.ChordQuality.{ChordQuality}
@@ -20,10 +19,9 @@ use Rattle.qualities.specs.declared.quality.ChordQuality.the-variants.{Maj, Maj
 use Rattle.qualities.specs.declared.quality.ChordQuality.the-variants as Quality
 use Rattle.rules.specs.Classes.{intervalsOf}
 use Rattle.rules.specs.Parts.{hasThird, withThird, suffixQuality}
-use Rattle.harmonies.specs.Xml.{Elements, none, element, _then_, leaf, node}
+use Rattle.harmonies.specs.Xml.{Elements, _then_, leaf, node}
 use Rattle.harmonies.specs.Degrees.{Degree}
-use Rattle.harmonies.specs.Harmony.{flats, Kind, kindOf, degreesFrom, degreesOf, decimal, integer, pitchOf, rootOf, bassOf, degrees, harmony, harmonyOf}
-use Rattle.harmonies.specs.Scanning.{elementsOf}
+use Rattle.harmonies.specs.Harmony.{flats, Kind, kindOf, degreesFrom, degreesOf, decimal, integer, pitchOf, bassOf, harmony, harmonyOf}
 use Rattle.harmonies.specs.Chords.{tonesOf, sounding}
 use Rattle.harmonies.specs.Reading.{inside, textIn, isThere, classIn, bassIn, degreesIn, Harmony, harmonyIn, readHarmony}
 use Rattle.harmonies.proofs.Parsed.{plain, isName, clean, clean-then, parsed}

@@ -1,5 +1,5 @@
 -- A `harmony` element read, by the names of its parts: MusicXML 4.0, `harmony`, `root`, `kind`, `bass`, `degree`.
-use mathlib.Core.Bool.{Bool, true, false, cond, _||_}
+use mathlib.Core.Bool.{Bool, false, cond, _||_}
 use mathlib.Core.List.{List, [], _∷_}
 use Prim.Native.Nat.{ℕ, _+_, _-_, _*_}
 use Prim.Native.String.{String}

@@ -1,7 +1,7 @@
 -- From keys to elements: what `hemotusap_candidate` tells of a candidate, `hemotusap_harmony` writes.
 --     exported     no candidate is refused, but for room
 --     read-back    and from its element a reader has its root, its bass and its set
-use Rattle.answer.proofs.Kit.{_≡_, _&&_, true, List, ℕ, _<_, arith, leb, le-leb}
+use Rattle.answer.proofs.Kit.{_≡_, _&&_, true, List, ℕ, arith, leb, le-leb}
 use Rattle.answer.specs.Replies.{text}
 use Rattle.intervals.specs.Bass.{isBass}
 use Rattle.candidates.specs.declared.parts.Candidate.{Candidate}

@@ -2,7 +2,6 @@
 use crate::host::bass_from;
 use crate::host::written;
 use musicxml::harmony::harmony;
-ghost use mathlib.Core.Path.{_≡_};
 ghost use Rattle.musicxml.specs.Replies.{flats, harmonyReply};
 ghost use Rattle.hemotusap.specs.Host.{bassFrom, HostAnswered};
 

@@ -10,9 +10,9 @@ use Rattle.intervals.specs.Intervals.{classOf, toDegreeOf}
 use Rattle.intervals.specs.declared.interval.Interval.{Interval}
 use Rattle.intervals.specs.declared.interval.IntDegree.the-variants.{Third, Fifth}
 use Rattle.rules.specs.Classes.{keep}
-use Rattle.harmonies.specs.Xml.{Elements, none, _then_, written}
+use Rattle.harmonies.specs.Xml.{_then_, written}
 use Rattle.harmonies.specs.Degrees.{Degree}
-use Rattle.harmonies.specs.Harmony.{Kind, tones, subtractOf, silent, decimal, integer, degree, degrees}
+use Rattle.harmonies.specs.Harmony.{Kind, subtractOf, silent, decimal, integer, degree, degrees}
 use Rattle.harmonies.proofs.Texts.{written-then, degree-text}
 use Rattle.musicxml.specs.declared.degrees.Row.{Row}
 use Rattle.musicxml.specs.declared.texts.Part.the-variants.{Add, Subtract}

@@ -1,7 +1,7 @@
 -- The intervals outside a kind, by bits: those of the set of all that are outside it which a set has.
 --     outside-bits     they are read off the bitwise and
 --     outside-small    which is a set of intervals
-use Rattle.answer.proofs.Kit.{_≡_, refl, sym, ap, ap₂, _∙_, Bool, true, false, cond, not, _&&_, _||_, and-false, List, [], _∷_, map, ℕ, _^_, _<_, bitAnd, T, eqb, eqb-true, eq-eqb}
+use Rattle.answer.proofs.Kit.{_≡_, refl, sym, ap, _∙_, Bool, true, false, cond, not, _&&_, _||_, and-false, List, [], _∷_, map, ℕ, _^_, _<_, bitAnd, T, eqb, eqb-true}
 use lib.Bits.{and-lt}
 use Rattle.answer.proofs.Tests.{is-true, all}
 use Rattle.intervals.specs.Sets.{has, isIn, isRooted}
@@ -12,7 +12,7 @@ use Rattle.intervals.specs.declared.interval.MaybeInterval.the-variants.{Is, No
 use Rattle.intervals.proofs.Masked.{and-has}
 use Rattle.intervals.proofs.Members.{bits-has}
 use Rattle.intervals.proofs.Rows.{at-interval, numbered-back, set-small}
-use Rattle.rules.specs.Classes.{among, keep, intervalsIn, intervalsOf}
+use Rattle.rules.specs.Classes.{keep, intervalsIn, intervalsOf}
 use Rattle.rules.proofs.Counted.{set-reads}
 use Rattle.harmonies.specs.Harmony.{Kind, tones, outside}
 

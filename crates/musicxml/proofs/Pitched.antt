@@ -6,7 +6,7 @@ use Rattle.answer.proofs.Kit.{_≡_, Bool, _&&_, List, _++_, ℕ, _+_, _%_, _<_
 use Rattle.answer.specs.Words.{bytes, same, low, packed, digits, long, textOf}
 use Rattle.answer.proofs.Tests.{left, right, all, at, same→eq}
 use Rattle.intervals.specs.declared.bass.Bass.the-variants.{Class}
-use Rattle.notes.specs.NoteText.{letterName, signs, noteName}
+use Rattle.notes.specs.NoteText.{signs, noteName}
 use Rattle.names.specs.Names.{flats, nameOf}
 use Rattle.harmonies.specs.Xml.{written}
 use Rattle.harmonies.specs.Harmony.{rootOf, bassOf}

@@ -1,17 +1,15 @@
 -- The whole element as the code puts it.
 --     wholeText, whole                   texts in a row, which are the element
 --     few, third-class, fifth-class      the numbers that they are made of are such as the puts ask for
-use Rattle.answer.proofs.Kit.{_≡_, refl, ap, ap₂, _∙_, true, List, _++_, append-assoc, map, ℕ, _<_, _^_, arith, bitAnd}
-use Rattle.answer.specs.Words.{bytes}
+use Rattle.answer.proofs.Kit.{_≡_, ap₂, _∙_, true, List, _++_, append-assoc, map, ℕ, _<_, _^_, arith, bitAnd}
 use Rattle.intervals.specs.Sets.{isRooted}
-use Rattle.intervals.specs.Intervals.{intervals, setOf, classOf}
+use Rattle.intervals.specs.Intervals.{setOf}
 use Rattle.intervals.specs.declared.bass.Bass.{Bass}
 use Rattle.rules.specs.Classes.{intervalsIn, intervalsOf}
 use Rattle.rules.specs.Parts.{suffixQuality}
 use Rattle.names.specs.Names.{flats}
 use Rattle.harmonies.specs.Xml.{written}
-use Rattle.harmonies.specs.Degrees.{Degree}
-use Rattle.harmonies.specs.Harmony.{Kind, kindOf, addOf, subtractOf, outside, silent, bassOf, rootOf, degrees, degreesOf, harmonyOf}
+use Rattle.harmonies.specs.Harmony.{Kind, kindOf, addOf, subtractOf, outside, silent, bassOf, degrees, degreesOf, harmonyOf}
 use Rattle.harmonies.proofs.Lossless.{kind-sounds}
 use Rattle.harmonies.proofs.Texts.{harmony-text}
 use Rattle.musicxml.specs.declared.kinds.Kind as kinds

@@ -7,7 +7,6 @@ use Rattle.answer.proofs.Writing.{counted, within}
 use Rattle.intervals.specs.Bass.{isBass}
 use Rattle.intervals.specs.Intervals.{setOf}
 use Rattle.intervals.specs.Sets.{isRooted}
-use Rattle.intervals.specs.declared.bass.Bass.{Bass}
 use Rattle.rules.specs.Classes.{intervalsOf}
 use Rattle.rules.specs.Parts.{suffixQuality}
 use Rattle.descriptors.specs.declared.descriptor.Descriptor.{Descriptor}

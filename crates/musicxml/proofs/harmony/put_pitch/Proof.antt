@@ -1,9 +1,8 @@
 -- `musicxml::harmony::put_pitch` meets its contract: five texts in a row.
-use Rattle.answer.proofs.Kit.{_≡_, sym, ap, subst, _∙_, List, _++_, ℕ, _+_, _%_, _≤_, arith, length, length-append, take, now, needs}
-use Rattle.answer.specs.Words.{packed, long, textOf}
+use Rattle.answer.proofs.Kit.{_≡_, ap, subst, _∙_, List, _++_, ℕ, _+_, _%_, _≤_, arith, length, length-append, take, now, needs}
+use Rattle.answer.specs.Words.{long, textOf}
 use Rattle.answer.proofs.Writing.{Puts, no-puts, same-text}
 use Rattle.names.specs.Names.{flats, nameOf}
-use Rattle.musicxml.specs.declared.texts.Part.{Part}
 use Rattle.musicxml.specs.private.Texts.{partText}
 use Rattle.musicxml.specs.private.Pitches.{alterWhere, pitchText}
 use Rattle.musicxml.proofs.Pitched.{letterWord, letter-short, letter-text, name-long}
