@@ -4,9 +4,13 @@ use Rattle.answer.proofs.Kit.{now}
 use Rattle.answer.proofs.Determined.{Decides, DecidesWith, determined, both}
 use Rattle.candidates.proofs.lines.candidates.Reads as candidates
 use Rattle.candidates.proofs.lines.candidate_count.Reads as candidate-count
+use Rattle.candidates.proofs.numbered.candidate.Reads as candidate
 
 pub candidates-decides : DecidesWith candidates.Post (λ κs s. now (s .1 .0))
 candidates-decides κs a r r′ s s′ = both
 
 pub candidate-count-decides : Decides candidate-count.Post
 candidate-count-decides κs a r r′ s s′ = determined
+
+pub candidate-decides : Decides candidate.Post
+candidate-decides κs a r r′ s s′ = determined

@@ -1,7 +1,7 @@
-pub mod Wheres
 pub mod Turned
 pub mod Heard
 pub mod Firsts
+pub mod Chords
 pub mod Listed
 pub mod Laws
 pub mod Determined

@@ -4,10 +4,10 @@
 --     seen-rooted      seen from one of its classes, it is rooted
 --     seen-next        one class more of the walk, as the code adds it
 use Rattle.answer.proofs.Kit.{_≡_, refl, ap, _∙_, Bool, true, false, cond, ℕ, _+_, _*_, _/_, _%_, _^_, _<_, _≤_, zero-mul, one-mul, add-one, arith, shl-exact, le-leb}
-use Rattle.intervals.specs.Sets.{isSet, has, isRooted}
+use Rattle.intervals.specs.Sets.{isSet, has, isRooted, setBelow}
 use Rattle.intervals.proofs.Members.{held, absent}
-use Rattle.candidates.specs.Keys.{setBelow, seenFrom}
-use Rattle.candidates.proofs.Wheres.{where-less, where-says}
+use Rattle.intervals.proofs.Wheres.{where-less, where-says}
+use Rattle.candidates.specs.Keys.{seenFrom}
 
 pub seen-from-says : (root s k : ℕ) → k < 12 → has (seenFrom root s) k ≡ has s ((root + k) % 12)
 unfolding seenFrom

@@ -1,21 +1,12 @@
 -- MIDI keys as pitch classes, and sets seen from another root: paper 01, "Candidates" and "Sets and intervals".
-use mathlib.Core.Bool.{Bool, cond}
+use mathlib.Core.Bool.{cond}
 use mathlib.Core.List.{List, [], _∷_, map}
-use Prim.Native.Nat.{ℕ, zero, suc, _+_, _%_, _^_}
-use Rattle.intervals.specs.Sets.{has, isIn}
+use Prim.Native.Nat.{ℕ, _+_, _%_}
+use Rattle.intervals.specs.Sets.{has, setWhere, isIn}
 
 -- MIDI 1.0 numbers the keys 0..127, and 60 is middle C: a key's class is its number mod 12, C being 0; "Codes 128..255 are taken .. mod 12"
 abbrev pub keyClass : ℕ → ℕ
 keyClass key = key % 12
-
--- the set of those classes below n for which a test holds
-unfoldable pub setBelow : ℕ → (ℕ → Bool) → ℕ
-setBelow zero holds = 0
-setBelow (suc n) holds = setBelow n holds + cond (holds n) (2 ^ n) 0
-
--- the set of those of the twelve classes for which a test holds
-unfoldable pub setWhere : (ℕ → Bool) → ℕ
-setWhere holds = setBelow 12 holds
 
 -- a set seen from another root: class k is in it exactly when class root + k, mod 12, is in the set
 unfoldable pub seenFrom : ℕ → ℕ → ℕ

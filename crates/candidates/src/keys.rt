@@ -1,7 +1,7 @@
 // The classes of a list of MIDI keys, and a set of classes seen from another root, as in the Rust's `inference/mod.rs`.
 ghost use mathlib.Core.Path.{_≡_};
 ghost use Prim.Native.Nat.{_%_, _<_, _≤_};
-ghost use lib.ListN.{length, take};
+ghost use lib.ListN.{length};
 ghost use Rattle.candidates.specs.Keys.{seenFrom};
 ghost use Rattle.candidates.specs.private.Finds.{Finds};
 
@@ -31,6 +31,12 @@ pub(crate) fn find(keys: &[u8], order: &mut [u8]) -> Found
         i += 1;
     }
     Found { set, count }
+}
+
+pub(crate) fn wide(class: u8) -> u32
+    ensures { λ r. ⌜ r ≡ class ⌝ }
+{
+    class as u32
 }
 
 // A class of the two octaves above C, in the first: a division costs more than the rest of a walk's step.

@@ -1,6 +1,7 @@
 // The candidates of a list of keys, a line each.
 use crate::keys::find;
 use crate::keys::seen_from;
+use crate::keys::wide;
 use answer::output::Output;
 use answer::output::give;
 use answer::word::put;
@@ -8,15 +9,18 @@ use inference::normalize::put_suffix;
 use names::table::class_name;
 ghost use mathlib.Core.Path.{_≡_};
 ghost use mathlib.Core.Bool.{true};
+ghost use mathlib.Core.List.{[], _∷_, _++_};
 ghost use Prim.Native.Nat.{_<_, _≤_};
 ghost use lib.ListN.{length};
+ghost use Rattle.answer.specs.Lines.{lineFeed};
 ghost use Rattle.answer.specs.Replies.{text, Answered};
 ghost use Rattle.intervals.specs.Sets.{has, classCount};
 ghost use Rattle.answer.specs.Written.{Writes};
 ghost use Rattle.answer.specs.Words.{long, textOf};
 ghost use Rattle.names.specs.Names.{flats};
-ghost use Rattle.candidates.specs.Keys.{classSet};
-ghost use Rattle.candidates.specs.Candidates.{over, line, allLines, candidatesOf};
+ghost use Rattle.rules.specs.Suffix.{suffixOf};
+ghost use Rattle.candidates.specs.Keys.{seenFrom, classSet};
+ghost use Rattle.candidates.specs.Candidates.{chords, over, lines, candidatesOf};
 ghost use Rattle.candidates.specs.private.Finds.{Classes};
 
 const SLASH: u64 = 0x2f;
@@ -34,7 +38,7 @@ fn over_name(first: u64) -> u64
 // A candidate: a class's name, the suffix of the set seen from it, and what stands behind that.
 fn put_line(out: &mut [u8], name: u64, class: u32, set: u32, behind: u64) -> usize
     requires { ⌜ (long name ≤ 2) × (class < 12) × (set < 4096) × (has set class ≡ true) × (long behind ≤ 3) × (80 ≤ length (now out)) ⌝ }
-    ensures { λ r. ⌜ Writes (now (out .entry)) 0 (line (textOf name) set (textOf behind) class) r (now (out .exit)) ⌝ }
+    ensures { λ r. ⌜ Writes (now (out .entry)) 0 (textOf name ++ suffixOf (seenFrom class set) ++ textOf behind ++ (lineFeed ∷ [])) r (now (out .exit)) ⌝ }
 {
     let named = put(out, 0, name);
     let end = put_suffix(out, named, seen_from(class, set));
@@ -45,7 +49,7 @@ fn put_line(out: &mut [u8], name: u64, class: u32, set: u32, behind: u64) -> usi
 // The candidates of the classes of a set, in their order: each goes into the part of `out` that is still free.
 fn put_lines(out: &mut [u8], order: &[u8], set: u32) -> usize
     requires { ⌜ (set < 4096) × (length (now order) ≤ 12) × Classes set (now order) × (448 ≤ length (now out)) ⌝ }
-    ensures { λ r. ⌜ Writes (now (out .entry)) 0 (allLines flats set (now (order .entry))) r (now (out .exit)) ⌝ }
+    ensures { λ r. ⌜ Writes (now (out .entry)) 0 (lines flats (chords set (now (order .entry)))) r (now (out .exit)) ⌝ }
 {
     if order.len() == 0 {
         return 0;
@@ -62,12 +66,6 @@ fn put_lines(out: &mut [u8], order: &[u8], set: u32) -> usize
         i += 1;
     }
     used
-}
-
-fn wide(class: u8) -> u32
-    ensures { λ r. ⌜ r ≡ class ⌝ }
-{
-    class as u32
 }
 
 // Twelve lines of at most 33 bytes, and what a suffix wants free behind the last name.

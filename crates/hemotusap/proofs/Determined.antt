@@ -11,6 +11,8 @@ use Rattle.hemotusap.proofs.symbols.hemotusap_listing.Reads as listing
 use Rattle.hemotusap.proofs.symbols.hemotusap_tones.Reads as tones
 use Rattle.hemotusap.proofs.symbols.hemotusap_candidates.Reads as candidates
 use Rattle.hemotusap.proofs.symbols.hemotusap_candidate_count.Reads as candidate-count
+use Rattle.hemotusap.proofs.symbols.hemotusap_candidate.Reads as candidate
+use Rattle.hemotusap.proofs.scores.hemotusap_harmony.Reads as harmony
 use Rattle.hemotusap.proofs.voices.hemotusap_voicing.Reads as voicing
 
 pub quality-decides : Decides quality.Post
@@ -34,6 +36,9 @@ candidates-decides κs a r r′ s s′ = both
 pub candidate-count-decides : Decides candidate-count.Post
 candidate-count-decides κs a r r′ s s′ = determined
 
+pub candidate-decides : Decides candidate.Post
+candidate-decides κs a r r′ s s′ = determined
+
 pub listing-decides : DecidesWith listing.Post (λ κs s. now (s .1 .0))
 listing-decides κs a r r′ s s′ = both
 
@@ -42,3 +47,6 @@ tones-decides κs a r r′ s s′ = both
 
 pub voicing-decides : DecidesWith voicing.Post (λ κs s. now (s .1 .1 .1 .1 .1 .0))
 voicing-decides κs a r r′ s s′ = both
+
+pub harmony-decides : DecidesWith harmony.Post (λ κs s. now (s .1 .1 .1 .0))
+harmony-decides κs a r r′ s s′ = both

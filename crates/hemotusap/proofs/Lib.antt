@@ -1,3 +1,5 @@
 pub mod Wide
 pub mod Determined
 pub mod Rooms
+pub mod ReadBack
+pub mod Exported

@@ -19,7 +19,10 @@ use Rattle.keys.specs.Range.{lowestKey, highestKey}
 use Rattle.voicings.specs.declared.voicing.Chord.{Chord}
 use Rattle.voicings.specs.Voicing.{voicingReply}
 use Rattle.voicings.proofs.Laws.{voicing-room}
-use Rattle.hemotusap.specs.Rooms.{suffixRoom, listingRoom, tonesRoom, candidatesRoom, noteTextRoom, voicingRoom}
+use Rattle.intervals.specs.declared.bass.Bass.{Bass}
+use Rattle.musicxml.specs.Replies.{harmonyReply}
+use Rattle.musicxml.proofs.Replied.{harmony-room}
+use Rattle.hemotusap.specs.Rooms.{suffixRoom, listingRoom, tonesRoom, candidatesRoom, noteTextRoom, voicingRoom, harmonyRoom}
 
 -- of a reply: no room of so many bytes is refused for want of room
 abbrev pub Enough : ℕ → Reply → Type 0
@@ -43,3 +46,6 @@ note-text-enough note = roomy noteTextRoom (noteReply signs note) (note-text-roo
 pub voicing-enough : (chord : Chord) (classes intervals : List ℕ) → Enough voicingRoom (voicingReply lowestKey highestKey chord classes intervals)
 voicing-enough chord classes intervals =
     roomy voicingRoom (voicingReply lowestKey highestKey chord classes intervals) (voicing-room lowestKey highestKey chord classes intervals)
+
+pub harmony-enough : (root : ℕ) (bass : Bass) (set : ℕ) → Enough harmonyRoom (harmonyReply flats root bass set)
+harmony-enough root bass set = roomy harmonyRoom (harmonyReply flats root bass set) (harmony-room root bass set)

@@ -11,6 +11,8 @@ use Rattle.answer.specs.Replies.{Reply, outputOf, roomAfter}
 use Rattle.answer.specs.declared.refusal.Refusal.{Refusal}
 use Rattle.answer.specs.declared.output.Output.{Output}
 use Rattle.answer.specs.declared.output.Output.the-variants as Output
+use Rattle.intervals.specs.declared.bass.Bass.{Bass}
+use Rattle.intervals.specs.declared.bass.Bass.the-variants as Bass
 use Rattle.notes.specs.Notes.{countOf}
 use Rattle.qualities.specs.Qualities as Qualities
 use Rattle.notes.specs.declared.note.Note.{Note}
@@ -18,8 +20,9 @@ use Rattle.notes.specs.declared.note.NoteAnswer.{NoteAnswer}
 use Rattle.notes.specs.declared.note.NoteAnswer.the-variants as Moved
 use Rattle.qualities.specs.declared.quality.QualityAnswer.{QualityAnswer}
 use Rattle.qualities.specs.declared.quality.QualityAnswer.the-variants as Quality
-use Rattle.voicings.specs.declared.voicing.Bass.{Bass}
-use Rattle.voicings.specs.declared.voicing.Bass.the-variants as Bass
+use Rattle.candidates.specs.declared.parts.Candidate.{Candidate}
+use Rattle.candidates.specs.declared.parts.MaybeCandidate.{MaybeCandidate}
+use Rattle.candidates.specs.declared.parts.MaybeCandidate.the-variants as Candidate
 use Rattle.voicings.specs.declared.voicing.Lead.{Lead}
 use Rattle.voicings.specs.declared.voicing.Lead.the-variants as Lead
 use Rattle.voicings.specs.declared.voicing.Chord.{Chord}
@@ -54,6 +57,20 @@ noteNumber n = pos (16 * n .letter + 6) +ℤ countOf (n .accidental)
 abbrev pub noteAnswerNumber : NoteAnswer → ℤ
 noteAnswerNumber (Moved.Is n) = noteNumber n
 noteAnswerNumber (Moved.Refused why) = refusalNumber why
+
+-- "a bass of 15 is none"
+abbrev pub bassNumber : Bass → ℕ
+bassNumber Bass.None = 15
+bassNumber (Bass.Class class) = class
+
+-- a candidate: "65536 × bass + 4096 × root + set"
+abbrev pub partsNumber : Candidate → ℕ
+partsNumber c = 65536 * bassNumber (c .bass) + 4096 * c .root + c .set
+
+-- a candidate, or "0 where there is no such candidate (no rooted set is 0)"
+abbrev pub candidateNumber : MaybeCandidate → ℤ
+candidateNumber (Candidate.Is c) = pos (partsNumber c)
+candidateNumber Candidate.Nothing = pos 0
 
 -- "There bass 255 means none"
 abbrev pub bassFrom : ℕ → Bass

@@ -25,3 +25,7 @@ noteTextRoom = 7
 -- HEMOTUSAP_VOICING_ROOM
 abbrev pub voicingRoom : ℕ
 voicingRoom = 35
+
+-- HEMOTUSAP_HARMONY_ROOM
+abbrev pub harmonyRoom : ℕ
+harmonyRoom = 1147

@@ -1,13 +1,24 @@
-// The library's answers as the numbers that a host gets: at or above 0 for an answer, minus its number for a refusal.
+// The library's answers as the numbers that a host gets: at or above 0 for an answer, minus its number for a refusal. Besides, the
+// bass that a host gives.
 use answer::output::Output;
 use answer::refusal::Refusal;
+use candidates::parts::Candidate;
+use candidates::parts::MaybeCandidate;
+use intervals::bass::Bass;
 use notes::note::Accidental;
 use notes::note::Note;
 use notes::note::NoteAnswer;
 use qualities::quality::QualityAnswer;
 ghost use mathlib.Core.Path.{_≡_};
-ghost use Rattle.hemotusap.specs.Host.{refusalNumber, outputNumber, qualityNumber, noteNumber, noteAnswerNumber};
+ghost use lib.IntN.{pos};
+ghost use Rattle.hemotusap.specs.Host.{refusalNumber, outputNumber, qualityNumber, noteNumber, noteAnswerNumber, bassFrom, bassNumber, partsNumber, candidateNumber};
 ghost use Rattle.hemotusap.specs.private.Wide.{Fits};
+
+// What the host gives for no bass.
+const NO_BASS: u32 = 255;
+
+// What it gets for none.
+const BASS_OF_NONE: u32 = 15;
 
 fn refused(why: Refusal) -> i64
     ensures { λ r. ⌜ r ≡ refusalNumber why ⌝ }
@@ -53,5 +64,41 @@ pub(crate) fn moved(answer: NoteAnswer) -> i64
     match answer {
         NoteAnswer::Is(note) => note_number(note),
         NoteAnswer::Refused(why) => refused(why),
+    }
+}
+
+pub(crate) fn bass_from(bass: u32) -> Bass
+    ensures { λ r. ⌜ r ≡ bassFrom bass ⌝ }
+{
+    if bass == NO_BASS {
+        return Bass::None;
+    }
+    Bass::Class(bass)
+}
+
+fn bass_number(bass: Bass) -> u32
+    ensures { λ r. ⌜ r ≡ bassNumber bass ⌝ }
+{
+    match bass {
+        Bass::None => BASS_OF_NONE,
+        Bass::Class(class) => class,
+    }
+}
+
+fn parts_number(candidate: Candidate) -> i64
+    ensures { λ r. ⌜ r ≡ pos (partsNumber candidate) ⌝ }
+{
+    let bass = candidate.bass;
+    let root = candidate.root as u64;
+    let set = candidate.set as u64;
+    (65536 * (bass_number(bass) as u64) + 4096 * root + set) as i64
+}
+
+pub(crate) fn candidate_number(answer: MaybeCandidate) -> i64
+    ensures { λ r. ⌜ r ≡ candidateNumber answer ⌝ }
+{
+    match answer {
+        MaybeCandidate::Is(candidate) => parts_number(candidate),
+        MaybeCandidate::Nothing => 0,
     }
 }

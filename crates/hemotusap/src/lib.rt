@@ -3,5 +3,6 @@
 mod host;
 pub mod moves;
 pub mod naming;
+pub mod scores;
 pub mod symbols;
 pub mod voices;

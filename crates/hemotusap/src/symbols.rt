@@ -1,7 +1,9 @@
 // Chord symbols for the host: the suffix of a set, the sets of a suffix, the candidates of a list of keys, spelled tones.
+use crate::host::candidate_number;
 use crate::host::written;
 use candidates::lines::candidate_count;
 use candidates::lines::candidates;
+use candidates::numbered::candidate;
 use inference::normalize::suffix;
 use listing::search::listing;
 use spelling::tones::tones;
@@ -11,10 +13,10 @@ ghost use Rattle.answer.specs.Replies.{text};
 ghost use Rattle.intervals.specs.Sets.{classCount};
 ghost use Rattle.rules.specs.Suffix.{suffixReply};
 ghost use Rattle.candidates.specs.Keys.{classSet};
-ghost use Rattle.candidates.specs.Candidates.{flats, candidatesOf};
+ghost use Rattle.candidates.specs.Candidates.{flats, candidateAt, candidatesOf};
 ghost use Rattle.listing.specs.Listing.{listingOf};
 ghost use Rattle.spelling.specs.Tones.{spelledBy, tonesReply};
-ghost use Rattle.hemotusap.specs.Host.{HostAnswered};
+ghost use Rattle.hemotusap.specs.Host.{candidateNumber, HostAnswered};
 
 #[no_mangle]
 pub extern "C" fn hemotusap_suffix(set: u32, out: &mut [u8]) -> i64
@@ -49,4 +51,11 @@ pub extern "C" fn hemotusap_candidate_count(codes: &[u8]) -> i64
     ensures { λ r. ⌜ r ≡ pos (classCount (classSet (now (codes .entry)))) ⌝ }
 {
     candidate_count(codes) as i64
+}
+
+#[no_mangle]
+pub extern "C" fn hemotusap_candidate(codes: &[u8], number: u32) -> i64
+    ensures { λ r. ⌜ r ≡ candidateNumber (candidateAt (now (codes .entry)) number) ⌝ }
+{
+    candidate_number(candidate(codes, number))
 }

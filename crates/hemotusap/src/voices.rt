@@ -1,28 +1,16 @@
 // Voicings for the host.
+use crate::host::bass_from;
 use crate::host::written;
-use voicings::voicing::Bass;
 use voicings::voicing::Chord;
 use voicings::voicing::Lead;
 use voicings::voicing::voicing;
 ghost use mathlib.Core.Path.{_≡_};
 ghost use Rattle.keys.specs.Range.{lowestKey, highestKey};
 ghost use Rattle.voicings.specs.Voicing.{voicingReply};
-ghost use Rattle.hemotusap.specs.Host.{bassFrom, leadFrom, chordFrom, HostAnswered};
-
-// What the host gives for no bass.
-const NO_BASS: u32 = 255;
+ghost use Rattle.hemotusap.specs.Host.{leadFrom, chordFrom, HostAnswered};
 
 // The last lead: what is above it is none.
 const LAST_LEAD: u32 = 255;
-
-fn bass_from(bass: u32) -> Bass
-    ensures { λ r. ⌜ r ≡ bassFrom bass ⌝ }
-{
-    if bass == NO_BASS {
-        return Bass::None;
-    }
-    Bass::Class(bass)
-}
 
 fn lead_from(lead: u32) -> Lead
     ensures { λ r. ⌜ r ≡ leadFrom lead ⌝ }

@@ -1,4 +1,3 @@
-pub mod First
 pub mod Texts
 pub mod Puts
 pub mod Described

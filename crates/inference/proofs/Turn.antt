@@ -8,7 +8,7 @@ use Rattle.rules.specs.Suffix.{worded, listed}
 use Rattle.inference.specs.private.Prefixes.{prefixText, part}
 use Rattle.inference.specs.declared.wording.Prefix.{Prefix}
 use Rattle.inference.specs.declared.wording.Prefix.the-variants as Prefixes
-use Rattle.inference.proofs.First.{First, lowest-of, bit, none-in}
+use Rattle.rules.proofs.First.{First, lowest-of, bit, none-in}
 use Rattle.answer.proofs.Writing.{Puts, SoFar, so-far-none, so-far-next, so-far-all, so-far-end}
 
 abbrev pub textOf : ℕ → ℕ → Prefix → ℕ → List ℕ

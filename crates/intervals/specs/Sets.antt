@@ -36,6 +36,15 @@ countBelow test (suc n) = cond (test n) 1 0 + countBelow test n
 unfoldable pub classCount : ℕ → ℕ
 classCount s = countBelow (has s) 12
 
+-- the set of those classes below n for which a test holds
+unfoldable pub setBelow : ℕ → (ℕ → Bool) → ℕ
+setBelow zero holds = 0
+setBelow (suc n) holds = setBelow n holds + cond (holds n) (2 ^ n) 0
+
+-- the set of those of the twelve classes for which a test holds
+unfoldable pub setWhere : (ℕ → Bool) → ℕ
+setWhere holds = setBelow 12 holds
+
 -- a set with a number put in, once
 abbrev pub withMember : ℕ → ℕ → ℕ
 withMember k s = cond (eqb (s / 2 ^ k % 2) 1) s (s + 2 ^ k)

@@ -2,6 +2,7 @@
 use answer::output::Output;
 use answer::refusal::Refusal;
 use inference::normalize::suffix;
+use intervals::bass::Bass;
 use libc::STDOUT_FILENO;
 use listing::search::listing;
 use notes::note::Note;
@@ -9,7 +10,6 @@ use notes::note::NoteAnswer;
 use qualities::quality::QualityAnswer;
 use qualities::quality::quality;
 use spelling::tones::tones;
-use voicings::voicing::Bass;
 use voicings::voicing::Chord;
 use voicings::voicing::Lead;
 use voicings::voicing::voicing;

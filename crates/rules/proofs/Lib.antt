@@ -4,3 +4,5 @@ pub mod Resolved
 pub mod Tested
 pub mod Told
 pub mod Short
+pub mod First
+pub mod Counted

@@ -7,6 +7,7 @@ use Rattle.answer.specs.Words.{bytes}
 use Rattle.answer.specs.Replies.{Reply, text}
 use Rattle.intervals.specs.Intervals.{numberOf}
 use Rattle.qualities.specs.Qualities.{qualityAnswer}
+use Rattle.intervals.specs.declared.bass.Bass.the-variants as Bass
 use Rattle.intervals.specs.declared.interval.Interval.{Interval}
 use Rattle.intervals.specs.declared.interval.Interval.the-variants.{Unison, MinorThird, MajorThird, DiminishedFifth, PerfectFifth, MajorSeventh, FlatNinth}
 use Rattle.qualities.specs.declared.quality.ChordQuality.{ChordQuality}
@@ -17,7 +18,6 @@ use Rattle.rules.specs.Suffix.{suffixReply}
 use Rattle.listing.specs.Listing.{inBytes, listingOf}
 use Rattle.keys.specs.Range.{lowestKey, highestKey}
 use Rattle.voicings.specs.Voicing.{voicingReply}
-use Rattle.voicings.specs.declared.voicing.Bass.the-variants as Bass
 use Rattle.voicings.specs.declared.voicing.Lead.{Lead}
 use Rattle.voicings.specs.declared.voicing.Lead.the-variants as Lead
 

@@ -1,5 +1,4 @@
 pub mod Spelled
-pub mod Counted
 pub mod Row
 pub mod Replied
 pub mod Computed

@@ -11,7 +11,7 @@ use Rattle.intervals.specs.declared.interval.IntDegree.{IntDegree}
 use Rattle.intervals.specs.declared.interval.MaybeInterval.{MaybeInterval}
 use Rattle.intervals.specs.declared.interval.MaybeInterval.the-variants.{Is, Nothing}
 use Rattle.rules.specs.Classes.{intervalsIn}
-use Rattle.inference.proofs.First.{First, lowest-of, bit, none-in}
+use Rattle.rules.proofs.First.{First, lowest-of, bit, none-in}
 use Rattle.spelling.specs.Tones.{toneNames, spaced, joined}
 use Rattle.spelling.specs.private.Numbers.{numberedName}
 use Rattle.spelling.proofs.Spelled.{tone-short}

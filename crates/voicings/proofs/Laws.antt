@@ -3,6 +3,7 @@
 use Rattle.answer.proofs.Kit.{Bool, true, false, cond, _&&_, List, ℕ, suc, _+_, _≤_, arith, T, leb, leb→le, length, length-append}
 use Rattle.answer.specs.Replies.{AtMost, refuse, text}
 use Rattle.answer.specs.declared.refusal.Refusal.the-variants.{BadClass, TooManyPairs, BadPair}
+use Rattle.intervals.specs.Bass.{isBass}
 use Rattle.pool.specs.declared.pool.Tone.{Tone}
 use Rattle.pool.specs.Pool.{tonesOf}
 use Rattle.pool.specs.Order.{sorted}
@@ -10,7 +11,7 @@ use Rattle.pool.proofs.Sorted.{sorted-length}
 use Rattle.leads.specs.Lead.{leadOf, withoutLast}
 use Rattle.leads.proofs.Led.{fewer}
 use Rattle.voicings.specs.declared.voicing.Chord.{Chord}
-use Rattle.voicings.specs.Voicing.{wantedOf, aboveBass, above, voicingOf, isBass, arePairs, voicingReply}
+use Rattle.voicings.specs.Voicing.{wantedOf, aboveBass, above, voicingOf, arePairs, voicingReply}
 use Rattle.voicings.proofs.Few.{few-guides, few-tensions}
 use Rattle.voicings.proofs.Replied.{few-bass}
 

@@ -7,6 +7,9 @@
 --     product-keys   so it is with the product's range
 use Rattle.answer.proofs.Kit.{_≡_, sym, subst, _∙_, true, _&&_, List, [], _∷_, _++_, List·Memᴰ, List·Memᴰ·not-nil, List·Memᴰ·cases-cons, List·Memᴰ·append-cases, List·Memᴰ·eq-of-singleton, _⊎_, inl, inr, ⊎-elim, ℕ, suc, _+_, _%_, _≤_, _<_, mod-eq-of-lt, arith, leb, leb→le}
 use Rattle.answer.proofs.Tests.{left, right, is-true, said}
+use Rattle.intervals.specs.Bass.{isBass}
+use Rattle.intervals.specs.declared.bass.Bass.{Bass}
+use Rattle.intervals.specs.declared.bass.Bass.the-variants as Bass
 use Rattle.pool.specs.declared.pool.Tone.{Tone}
 use Rattle.pool.specs.Pool.{tonesOf}
 use Rattle.pool.specs.Order.{sorted}
@@ -17,11 +20,9 @@ use Rattle.keys.proofs.Winner.{KeyOf, of-more}
 use Rattle.keys.proofs.Among.{in-chosen, placed-from}
 use Rattle.leads.specs.Lead.{withoutLast, leadOf}
 use Rattle.leads.proofs.Laws.{in-without, IsNoLead, lead-is}
-use Rattle.voicings.specs.declared.voicing.Bass.{Bass}
-use Rattle.voicings.specs.declared.voicing.Bass.the-variants as Bass
 use Rattle.voicings.specs.declared.voicing.Chord.{Chord}
 use Rattle.voicings.specs.Guides.{guideKeys, tensionKeys}
-use Rattle.voicings.specs.Voicing.{wantedOf, bassKeys, aboveBass, above, voicingOf, isBass, arePairs}
+use Rattle.voicings.specs.Voicing.{wantedOf, bassKeys, aboveBass, above, voicingOf, arePairs}
 
 -- a key of one of some tones, read back
 pub record Sounds (lowest highest : ℕ) (tones : List Tone) (key : ℕ) : Type 0 where

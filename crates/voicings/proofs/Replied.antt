@@ -5,11 +5,12 @@
 use Rattle.answer.proofs.Kit.{_≡_, Bool, true, false, _&&_, List, ℕ, _≤_, _<_, arith, leb, length, lt-leb, le-leb}
 use Rattle.answer.specs.Replies.{refuse, text}
 use Rattle.answer.specs.declared.refusal.Refusal.the-variants.{BadClass, TooManyPairs, BadPair}
-use Rattle.voicings.specs.declared.voicing.Bass.{Bass}
-use Rattle.voicings.specs.declared.voicing.Bass.the-variants as Bass
+use Rattle.intervals.specs.Bass.{isBass}
+use Rattle.intervals.specs.declared.bass.Bass.{Bass}
+use Rattle.intervals.specs.declared.bass.Bass.the-variants as Bass
 use Rattle.voicings.specs.declared.voicing.Chord.{Chord}
 use Rattle.pool.specs.Pool.{tonesOf}
-use Rattle.voicings.specs.Voicing.{bassKeys, isBass, arePairs, voicingOf, voicingReply}
+use Rattle.voicings.specs.Voicing.{bassKeys, arePairs, voicingOf, voicingReply}
 
 module _ (lowest highest : ℕ) (chord : Chord) (cs is : List ℕ) where
   abbrev classes : Bool

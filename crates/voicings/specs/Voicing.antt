@@ -6,9 +6,10 @@ use lib.Dec.{leb}
 use lib.ListN.{length}
 use Rattle.answer.specs.Replies.{Reply, refuse, text}
 use Rattle.answer.specs.declared.refusal.Refusal.the-variants.{BadClass, TooManyPairs, BadPair}
+use Rattle.intervals.specs.Bass.{isBass}
+use Rattle.intervals.specs.declared.bass.Bass.{Bass}
+use Rattle.intervals.specs.declared.bass.Bass.the-variants as Bass
 use Rattle.pool.specs.declared.pool.Tone.{Tone}
-use Rattle.voicings.specs.declared.voicing.Bass.{Bass}
-use Rattle.voicings.specs.declared.voicing.Bass.the-variants as Bass
 use Rattle.voicings.specs.declared.voicing.Lead.{Lead}
 use Rattle.voicings.specs.declared.voicing.Lead.the-variants as Lead
 use Rattle.voicings.specs.declared.voicing.Chord.{Chord}
@@ -40,11 +41,6 @@ above lowest limit wanted pool =
 unfoldable pub voicingOf : ℕ → ℕ → Chord → List ℕ → List ℕ → List ℕ
 voicingOf lowest highest chord classes intervals =
     bassKeys (chord .root) (chord .bass) ++ above lowest (suc highest) (wantedOf highest (chord .lead)) (sorted (tonesOf classes intervals))
-
--- a bass class that is none refused: "bass none excepted"
-abbrev pub isBass : Bass → Bool
-isBass Bass.None = true
-isBass (Bass.Class bass) = leb bass 11
 
 -- each pair has a note class up to 11 and an interval up to 22
 unfoldable pub arePairs : List Tone → Bool

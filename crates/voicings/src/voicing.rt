@@ -3,6 +3,8 @@ use crate::guides::put_above;
 use answer::output::Output;
 use answer::output::give;
 use answer::refusal::Refusal;
+use intervals::bass::Bass;
+use intervals::bass::is_bass;
 use intervals::set::LAST_CLASS;
 use keys::range::HIGHEST;
 use keys::range::LOWEST;
@@ -15,14 +17,10 @@ ghost use Prim.Native.Nat.{_≤_, _<_};
 ghost use lib.ListN.{length, take};
 ghost use Rattle.answer.specs.Replies.{Answered};
 ghost use Rattle.answer.specs.Written.{Writes};
+ghost use Rattle.intervals.specs.Bass.{isBass};
 ghost use Rattle.keys.specs.Range.{lowestKey, highestKey};
 ghost use Rattle.pool.specs.Pool.{tonesOf};
-ghost use Rattle.voicings.specs.Voicing.{wantedOf, bassKeys, isBass, arePairs, voicingReply};
-
-pub enum Bass {
-    None,
-    Class(u32),
-}
+ghost use Rattle.voicings.specs.Voicing.{wantedOf, bassKeys, arePairs, voicingReply};
 
 pub enum Lead {
     None,
@@ -42,15 +40,6 @@ const LAST_INTERVAL: u8 = 22;
 
 // Two bass keys, sixteen guides, sixteen tensions and the lead.
 const ROOM: usize = 35;
-
-fn is_bass(bass: Bass) -> bool
-    ensures { λ r. ⌜ r ≡ isBass bass ⌝ }
-{
-    match bass {
-        Bass::None => true,
-        Bass::Class(class) => class <= LAST_CLASS,
-    }
-}
 
 fn wanted(lead: Lead, highest: u8) -> u8
     ensures { λ r. ⌜ r ≡ wantedOf highest lead ⌝ }

@@ -1,7 +1,8 @@
 -- `candidates::keys::seen_from` meets its contract. The loop's invariant: what has been seen is the set's classes below `k`.
 use Rattle.answer.proofs.Kit.{_≡_, refl, ap, ap₂, _∙_, ℕ, _+_, _-_, _*_, _/_, _%_, _^_, _<_, _≤_, lt-of-lt-of-le, arith, pow-mono}
-use Rattle.candidates.specs.Keys.{setBelow, setWhere, seenFrom}
-use Rattle.candidates.proofs.Wheres.{below-less}
+use Rattle.intervals.specs.Sets.{setBelow, setWhere}
+use Rattle.intervals.proofs.Wheres.{below-less}
+use Rattle.candidates.specs.Keys.{seenFrom}
 use Rattle.candidates.proofs.Turned.{seenBelow, seen-next}
 use Rattle.candidates.proofs.keys.seen_from.Statement.{statement}
 use Rattle.candidates.proofs.keys.seen_from.Tie as tie

@@ -3,7 +3,7 @@ use Rattle.answer.proofs.Kit.{_≡_, ap, ap₂, sym, subst, _∙_, List, ℕ, a
 use Rattle.answer.specs.Replies.{text, Answered}
 use Rattle.answer.proofs.Writing.{counted, within}
 use Rattle.names.specs.Names.{flats}
-use Rattle.candidates.specs.Candidates.{allLines, candidatesOf}
+use Rattle.candidates.specs.Candidates.{chords, chordsOf, lines, candidatesOf}
 use Rattle.candidates.specs.private.Finds.{Finds, Classes}
 use Rattle.candidates.proofs.Heard.{set-less, firsts-classes, firsts-few}
 use Rattle.candidates.proofs.Firsts.{found-few}
@@ -22,10 +22,10 @@ put-lines-requires c κs =
 -- where the candidates stand
 stands : (c : tie.After-put-lines)
     → take (c .put-lines .result) (c .put-lines .last .0) ≡ candidatesOf flats (now (c .before .before .before .before .before .before .before .before .args .keys))
-unfolding candidatesOf
+unfolding candidatesOf chordsOf
 stands c =
     let f = c .before .before .before .before .find .ensures in
-    c .put-lines .ensures .added ∙ ap₂ (allLines flats) (f .isSet) (f .classes)
+    c .put-lines .ensures .added ∙ ap (lines flats) (ap₂ chords (f .isSet) (f .classes))
 
 returns : tie.Need-returns
 returns c =

@@ -1,16 +1,18 @@
 -- `candidates::lines::put_lines` meets its contract. The loop's invariant: the lines of the classes before `i` are written.
-use Rattle.answer.proofs.Kit.{_≡_, ap, ap₂, _∙_, true, List, [], ℕ, _+_, _-_, _*_, _<_, _≤_, arith, T, length, drop, drop-length, now, needs}
+use Rattle.answer.proofs.Kit.{_≡_, refl, ap, _∙_, true, List, [], map, flatMap, ℕ, _+_, _-_, _*_, _<_, _≤_, arith, T, length, drop, drop-length, now, needs}
 use borrow.Rule.Slice.PartMut.{putMid}
 use Rattle.intervals.specs.Sets.{has}
+use Rattle.intervals.specs.declared.bass.Bass.the-variants.{None, Class}
 use Rattle.answer.specs.Words.{digits, long, textOf}
 use Rattle.answer.specs.Written.{Writes}
 use Rattle.answer.proofs.Parts.{part-puts, part-long}
 use Rattle.answer.proofs.Writing.{also, same-text, Puts, SoFar, so-far-none, so-far-next, so-far-all}
-use Rattle.names.specs.Names.{flats, nameOf}
-use Rattle.names.proofs.Named.{areBrief, flats-brief, name-length}
+use Rattle.names.specs.Names.{flats}
+use Rattle.names.proofs.Named.{areBrief, flats-brief}
 use Rattle.notes.specs.declared.note.Note.{Note}
-use Rattle.candidates.specs.Candidates.{over, line, lines}
-use Rattle.candidates.proofs.Listed.{name-long, name-text, line-length, over-length, one-line, all-lines, none-listed}
+use Rattle.candidates.specs.Candidates.{chord, over, line, lines}
+use Rattle.candidates.proofs.Listed.{name-long, name-text, line-of-pieces, line-length, one-line, all-lines, none-listed}
+use Rattle.candidates.proofs.Chords.{chord-rooted}
 use Rattle.candidates.proofs.lines.put_lines.Statement.{statement}
 use Rattle.candidates.proofs.lines.put_lines.Tie as tie
 
@@ -23,7 +25,7 @@ brief = flats-brief
 
 -- the lines of the classes from the one at i on
 abbrev left : ℕ → ℕ → List ℕ → ℕ → List ℕ
-left set root order i = lines table set (over (nameOf table root)) (drop i order)
+left set root order i = lines table (map (chord set (Class root)) (drop i order))
 
 abbrev Inv-loop : tie.InvT-loop
 Inv-loop out₀ order set root first behind used₀ i₀ out used i =
@@ -63,13 +65,13 @@ roomy c =
 wrote-first : (c : tie.After-put-line Inv-loop μ-loop)
     → let w = c .before .before .before .before in
     let s = w .before .before .before .before .before in
-    Writes (now (s .args .out)) 0 (line (nameOf table (w .wide .result)) (s .args .set) [] (w .wide .result)) (c .put-line .result) (c .put-line .last .0)
+    Writes (now (s .args .out)) 0 (line table (chord (s .args .set) None (w .wide .result))) (c .put-line .result) (c .put-line .last .0)
 unfolding textOf digits
 wrote-first c =
     let n = c .before .before .before in
     let w = n .before in
     let s = w .before .before .before .before .before in
-    same-text (ap (λ (t : List ℕ). line t (s .args .set) [] (w .wide .result)) (name-text table brief (w .wide .result) _ (n .class-name .ensures))) (c .put-line .ensures)
+    same-text (line-of-pieces table (s .args .set) None (w .wide .result) _ [] (name-text table brief (w .wide .result) _ (n .class-name .ensures)) refl) (c .put-line .ensures)
 
 loop-holds : tie.Need-loop-holds Inv-loop μ-loop
 loop-holds c =
@@ -77,7 +79,7 @@ loop-holds c =
     let w = f .before .before .before .before in
     let s = w .before .before .before .before .before in
     let k = first-is w in
-    let short = line-length (nameOf table (w .wide .result)) (name-length table brief _) (s .args .set) (w .wide .result) (k .0) (k .1) [] (omega arith) in
+    let short = line-length table brief (chord (s .args .set) None (w .wide .result)) (chord-rooted (s .args .set) None (w .wide .result) (k .0) (k .1)) in
     (so-far-none _ _ _, omega (arith, short, wrote-first f .place), omega arith)
 
 put-line-requires : tie.Need-put-line-requires-2 Inv-loop μ-loop
@@ -101,7 +103,7 @@ wrote-next : (c : tie.After-put-line2 Inv-loop μ-loop)
     let l = w .before .before .before in
     let root = l .before .before .before .before .before .before .before in
     let s = root .before .before .before .before .before in
-    Puts (l .loop .out) (l .loop .used) (line (nameOf table (w .wide2 .result)) (s .args .set) (over (nameOf table (root .wide .result))) (w .wide2 .result))
+    Puts (l .loop .out) (l .loop .used) (line table (chord (s .args .set) (Class (root .wide .result)) (w .wide2 .result)))
     (l .loop .used + c .put-line2 .result) (putMid (l .loop .used) (length (l .loop .out) - l .loop .used) (l .loop .out) (c .put-line2 .last .0))
 wrote-next c =
     let n = c .before .before in
@@ -113,7 +115,7 @@ wrote-next c =
     let name = name-text table brief (w .wide2 .result) _ (n .class-name2 .ensures) in
     let behind = below .over-name .ensures .0 ∙ ap over (name-text table brief (first .before .wide .result) _ (first .class-name .ensures)) in
     part-puts (l .loop .out) (l .loop .used) (length (l .loop .out) - l .loop .used) (omega (arith, roomy (w .before .before)))
-    (same-text (ap₂ (λ (t u : List ℕ). line t (s .args .set) u (w .wide2 .result)) name behind) (c .put-line2 .ensures)) (c .put-line2 .kept .0)
+    (same-text (line-of-pieces table (s .args .set) (Class (first .before .wide .result)) (w .wide2 .result) _ _ name behind) (c .put-line2 .ensures)) (c .put-line2 .kept .0)
 
 -- which has at most 33 bytes
 short-next : (c : tie.After-put-line2 Inv-loop μ-loop) → c .put-line2 .result ≤ 33
@@ -123,7 +125,7 @@ short-next c =
     let root = l .before .before .before .before .before .before .before in
     let s = root .before .before .before .before .before in
     let k = next-is w in
-    omega (arith, wrote-next c .wrote .place, line-length (nameOf table (w .wide2 .result)) (name-length table brief _) (s .args .set) (w .wide2 .result) (k .0) (k .1) (over (nameOf table (root .wide .result))) (over-length _ (name-length table brief _)))
+    omega (arith, wrote-next c .wrote .place, line-length table brief (chord (s .args .set) (Class (root .wide .result)) (w .wide2 .result)) (chord-rooted (s .args .set) (Class (root .wide .result)) (w .wide2 .result) (k .0) (k .1)))
 
 loop-again : tie.Need-loop-again Inv-loop μ-loop
 loop-again c =
@@ -133,11 +135,11 @@ loop-again c =
     let root = l .before .before .before .before .before .before .before in
     let s = root .before .before .before .before .before in
     let order = now (s .args .order) in
-    let next = one-line table (s .args .set) order (over (nameOf table (root .wide .result))) (l .loop .i) (w .wide2 .result) (w .wide2 .ensures) (omega arith) in
+    let next = one-line table (s .args .set) order (Class (root .wide .result)) (l .loop .i) (w .wide2 .result) (w .wide2 .ensures) (omega arith) in
     (so-far-next (l .loop .inv .0) _ _ next (wrote-next n), omega (arith, short-next n, l .loop .inv .1), omega arith)
 
 returns-2 : tie.Need-returns-2 Inv-loop μ-loop
-unfolding lines
+unfolding lines flatMap
 returns-2 c =
     let h = c .before .loop in
     let f = c .before .before .before .before in
@@ -145,7 +147,7 @@ returns-2 c =
     let s = root .before .before .before .before .before in
     let order = now (s .args .order) in
     let end : h .i ≡ length order = omega (arith, h .inv .2) in
-    let none : left (s .args .set) (root .wide .result) order (h .i) ≡ [] = ap (left (s .args .set) (root .wide .result) order) end ∙ ap (lines table (s .args .set) _) (drop-length order) in
+    let none : left (s .args .set) (root .wide .result) order (h .i) ≡ [] = ap (left (s .args .set) (root .wide .result) order) end ∙ ap (λ (l : List ℕ). lines table (map (chord (s .args .set) (Class (root .wide .result))) l)) (drop-length order) in
     same-text (all-lines table (s .args .set) order (root .wide .result) (root .wide .ensures) (omega arith)) (also (wrote-first f) (so-far-all (h .inv .0) none .wrote))
 
 pub put-lines-spec : {M : Type 1} → statement M

@@ -1,6 +1,6 @@
 -- `inference::normalize::put_parts` meets its contract. The loop's invariant: what is written so far, with what is left to write, is
 -- the whole.
-use Rattle.inference.proofs.First.{number-small, bit-within, less}
+use Rattle.rules.proofs.First.{number-small, bit-within, less}
 use Rattle.inference.proofs.Turn.{Turn, begin, end, turn, room}
 use Rattle.inference.proofs.normalize.put_parts.Statement.{statement}
 use Rattle.inference.proofs.normalize.put_parts.Tie as tie

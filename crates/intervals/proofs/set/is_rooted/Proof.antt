@@ -1,4 +1,4 @@
--- `qualities::set::is_rooted` meets its contract.
+-- `intervals::set::is_rooted` meets its contract.
 use Rattle.intervals.proofs.Rooted.{rooted-test}
 use Rattle.intervals.proofs.set.is_rooted.Statement.{statement}
 use Rattle.intervals.proofs.set.is_rooted.Tie as tie

@@ -1,7 +1,7 @@
 -- `spelling::tones::put_tones` meets its contract. The loop's invariant: what is written so far, with what is left to write, is the
 -- whole.
 use Rattle.answer.proofs.Kit.{needs}
-use Rattle.inference.proofs.First.{number-small, bit-within, less}
+use Rattle.rules.proofs.First.{number-small, bit-within, less}
 use Rattle.spelling.specs.Tones.{spelledBy}
 use Rattle.spelling.proofs.Row.{Row, begin, end, puts, turn}
 use Rattle.spelling.proofs.tones.put_tones.Statement.{statement}

@@ -7,7 +7,7 @@ use Rattle.intervals.proofs.Rooted.{rooted-small}
 use Rattle.intervals.proofs.Rows.{set-small}
 use Rattle.rules.specs.Classes.{intervalsIn, intervalsOf}
 use Rattle.spelling.specs.Tones.{spelledBy, toneNames, spaced, tonesOf}
-use Rattle.spelling.proofs.Counted.{at-least-one, at-most-twelve, set-reads}
+use Rattle.rules.proofs.Counted.{at-least-one, at-most-twelve, set-reads}
 use Rattle.spelling.proofs.Row.{row-some, row-long, given}
 use Rattle.spelling.proofs.tones.tones_on.Statement.{statement}
 use Rattle.spelling.proofs.tones.tones_on.Tie as tie

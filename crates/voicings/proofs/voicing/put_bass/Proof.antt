@@ -2,7 +2,7 @@
 use Rattle.answer.proofs.Kit.{refl, sym, ap, _∙_, List, [], _∷_, ℕ, _≤_, arith, leb→le, length, set, needs}
 use Rattle.answer.specs.Written.{Writes}
 use Rattle.answer.proofs.Tests.{said}
-use Rattle.voicings.specs.Voicing.{isBass}
+use Rattle.intervals.specs.Bass.{isBass}
 use Rattle.voicings.proofs.voicing.put_bass.Statement.{statement}
 use Rattle.voicings.proofs.voicing.put_bass.Tie as tie
 

@@ -5,6 +5,7 @@ use Rattle.answer.specs.Written.{Writes}
 use Rattle.answer.proofs.Rooms.{refused-by}
 use Rattle.answer.proofs.Tests.{left, right, is-true, said, refused, admitted}
 use Rattle.answer.proofs.Writing.{also, same-text, counted, within}
+use Rattle.intervals.specs.Bass.{isBass}
 use Rattle.pool.specs.declared.pool.Tone.{Tone}
 use Rattle.pool.specs.Pool.{tonesOf}
 use Rattle.pool.specs.private.Places.{tonesIn, IsPool}
@@ -13,7 +14,7 @@ use Rattle.leads.specs.declared.lead.Led.{Led}
 use Rattle.leads.specs.Lead.{leadOf}
 use Rattle.leads.specs.private.Leaves.{ledOf}
 use Rattle.leads.proofs.Led.{led-is, led-left}
-use Rattle.voicings.specs.Voicing.{wantedOf, bassKeys, aboveBass, above, isBass, arePairs, voicingOf}
+use Rattle.voicings.specs.Voicing.{wantedOf, bassKeys, aboveBass, above, arePairs, voicingOf}
 use Rattle.pool.proofs.Pairs.{few-classes, few-intervals, first-used}
 use Rattle.pool.proofs.Sorted.{sorted-length}
 use Rattle.voicings.proofs.Replied.{no-class, too-many, bad-pair, gives-voicing, few-bass}

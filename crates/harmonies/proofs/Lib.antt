@@ -1,0 +1,7 @@
+pub mod Parsed
+pub mod Computed
+pub mod Degrees
+pub mod Lossless
+pub mod Texts
+pub mod Long
+pub mod Sheet

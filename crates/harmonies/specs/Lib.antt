@@ -1,0 +1,6 @@
+pub mod Xml
+pub mod Degrees
+pub mod Harmony
+pub mod Scanning
+pub mod Chords
+pub mod Reading
