@@ -75,8 +75,8 @@ static void refused(struct run *run, int64_t root, int64_t bass, int64_t set, in
 static void refuse_set(struct run *run, int64_t set)
 {
     static const int64_t pairs[][2] = {
-        {0, NO_BASS}, {11, 11},  {CLASSES, NO_BASS},       {0, CLASSES},
-        {255, 0},     {0, 256},  {UINT32_MAX, UINT32_MAX},
+        {0, NO_BASS}, {11, 11}, {CLASSES, NO_BASS}, {0, CLASSES},
+        {255, 0},     {0, 256}, {UINT32_MAX, UINT32_MAX},
     };
     for (unsigned at = 0; at < LENGTH(pairs); at++)
         refused(run, pairs[at][0], pairs[at][1], set, HEMOTUSAP_NOT_A_SET);

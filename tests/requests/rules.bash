@@ -43,5 +43,9 @@ refuse() { # NAME ARGUMENTS...
       unless 2 "$2 <= 11 && ($3 <= 11 || $3 == 255)"
       unless_pairs "$5" "$6"
       ;;
+    harmony)
+      unless 1 "$4 <= 4095 && $4 % 2"
+      unless 2 "$2 <= 11 && ($3 <= 11 || $3 == 255)"
+      ;;
   esac
 }

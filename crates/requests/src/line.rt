@@ -98,7 +98,7 @@ pub(crate) fn signed(line: &[u8], part_number: usize) -> i32 {
 
 // The bytes of a list, commas between; their count. A list of none is a minus.
 pub(crate) fn bytes(line: &[u8], part_number: usize, out: &mut [u8]) -> usize
-    requires { ⌜ length (now out) ≤ 1024 ⌝ }
+    requires { ⌜ length (now out) ≤ 1200 ⌝ }
     ensures { λ r. ⌜ r ≤ length (now (out .exit)) ⌝ }
 {
     let mut at = part(line, part_number);

@@ -4,9 +4,10 @@
 //
 //     quality SET                                    candidate_count CODES
 //     get_note LETTER COUNT SEMITONES DEGREE         transpose LETTER COUNT LETTER COUNT LETTER COUNT
-//     suffix ROOM SET                                candidates ROOM CODES
-//     tones ROOM ROOT SET                            note_text ROOM LETTER COUNT
-//     listing ROOM TEXT                              voicing ROOM ROOT BASS LEAD CLASSES INTERVALS
+//     candidate NUMBER CODES                         candidates ROOM CODES
+//     suffix ROOM SET                                note_text ROOM LETTER COUNT
+//     tones ROOM ROOT SET                            voicing ROOM ROOT BASS LEAD CLASSES INTERVALS
+//     listing ROOM TEXT                              harmony ROOM ROOT BASS SET
 mod line;
 mod print;
 
@@ -22,6 +23,8 @@ use hemotusap::moves::hemotusap_get_note;
 use hemotusap::moves::hemotusap_transpose;
 use hemotusap::naming::hemotusap_note_text;
 use hemotusap::naming::hemotusap_quality;
+use hemotusap::scores::hemotusap_harmony;
+use hemotusap::symbols::hemotusap_candidate;
 use hemotusap::symbols::hemotusap_candidate_count;
 use hemotusap::symbols::hemotusap_candidates;
 use hemotusap::symbols::hemotusap_listing;
@@ -36,7 +39,7 @@ const LINE_FEED: u8 = b'\n';
 const INPUT: usize = 262144;
 
 // The most bytes that a range has.
-const RANGE: usize = 1024;
+const RANGE: usize = 1200;
 
 const FULL_STOP: u8 = b'.';
 
@@ -81,6 +84,12 @@ fn candidate_count(line: &[u8]) -> i64 {
     hemotusap_candidate_count(&codes[..count])
 }
 
+fn candidate(line: &[u8]) -> i64 {
+    let mut codes = [0u8; RANGE];
+    let count = bytes(line, 2, &mut codes);
+    hemotusap_candidate(&codes[..count], number(line, 1))
+}
+
 // A call that writes nothing.
 fn plain(line: &[u8]) -> i64 {
     if asks(line, b"quality") {
@@ -88,6 +97,9 @@ fn plain(line: &[u8]) -> i64 {
     }
     if asks(line, b"candidate_count") {
         return candidate_count(line);
+    }
+    if asks(line, b"candidate") {
+        return candidate(line);
     }
     if asks(line, b"get_note") {
         return hemotusap_get_note(
@@ -122,6 +134,9 @@ fn writing(line: &[u8], out: &mut [u8]) -> i64 {
     }
     if asks(line, b"voicing") {
         return voicing(line, out);
+    }
+    if asks(line, b"harmony") {
+        return hemotusap_harmony(number(line, 2), number(line, 3), number(line, 4), out);
     }
     UNKNOWN
 }

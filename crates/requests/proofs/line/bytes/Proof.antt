@@ -5,10 +5,10 @@ use Rattle.requests.proofs.line.bytes.Statement.{statement}
 use Rattle.requests.proofs.line.bytes.Tie as tie
 
 abbrev Inv-loop : tie.InvT-loop
-Inv-loop line part-number out₀ at₀ count₀ out at count = (count ≤ size out₀) × (size out ≡ size out₀) × (size out₀ ≤ 1024)
+Inv-loop line part-number out₀ at₀ count₀ out at count = (count ≤ size out₀) × (size out ≡ size out₀) × (size out₀ ≤ 1200)
 
 abbrev μ-loop : tie.MeasureT-loop
-μ-loop line part-number out₀ at₀ count₀ out at count = 1024 - count
+μ-loop line part-number out₀ at₀ count₀ out at count = 1200 - count
 
 pub bytes-spec : {M : Type 1} → statement M
 bytes-spec = tie.close (tie.spec
