@@ -12,7 +12,7 @@ pub use native.Mathlib.Omega.{arith}
 pub use lib.Dec.{T, T-not, eqb, eqb→eq, leb, leb·suc-suc, leb→le, lit<, ltb, ltb→lt, nleb→lt, nltb→le, not-T}
 pub use lib.ListN.{List·getD-eq-default, drop, getD, length, length-append, length-drop, length-map, length-replicate, length-set, length-take, replicate, set, take, take-append-drop}
 pub use lib.Seq.{append-snoc, drop-append-add, drop-at, drop-cons, drop-drop, drop-length, drop-set-lt, getD-take, length-front, length-take-le, paste-suc, set-split, sets, sets-eq, slice, slice-cons, slice-empty, take-all, take-append-add, take-append-le, take-append-seam, take-at, take-length, take-set-lt, take-suc, take-suc-set}
-pub use lib.Bits.{and-block, and-mask, and-shr, and-step, and-zero-r, bitAnd, bitOr, bitXor, or-disjoint, or-lt, or-shr, or-step, or-zero-r, xor-lt}
+pub use lib.Bits.{and-block, and-lt, and-mask, and-shr, and-step, and-zero-r, bitAnd, bitOr, bitXor, or-disjoint, or-lt, or-shr, or-step, or-zero-r, xor-lt}
 pub use lib.Count.{ones-cat, ones-le, ones-step, under}
 unfoldable pub use lib.Count.{ones, onesIn, trailingZeros}
 pub use lib.Pow.{pow-add, pow-lt, pow-mono, pow-pos, shl-exact, shr-lt}

@@ -2,10 +2,13 @@
 --     text-length            as long as the word says
 --     word-long, word-text   a short text's word holds it
 --     put-word               a word that is put at a place that has room adds its text
+--     then-text, then-word   a text and a word behind what stands there
+--     has-room               the room that is left
 use Rattle.answer.proofs.Kit.{_≡_, sym, ap, subst, _∙_, List, _++_, ℕ, _+_, _≤_, arith, zero-add, T, length, take, drop, replicate, length-append, length-take-le, take-append-le, take-append-add, le-leb}
 use Rattle.answer.specs.Words.{packed, digits, long, placeAfter, putAt, textOf}
 use Rattle.answer.specs.Written.{Writes}
 use Rattle.answer.proofs.Digits.{isShort, place-text, put-text}
+use Rattle.answer.proofs.Writing.{Puts, then-puts}
 
 pub text-length : (w : ℕ) → long w ≤ 8 → length (textOf w) ≡ long w
 unfolding textOf digits
@@ -36,3 +39,14 @@ put-word w h l at r l′ room told =
           (take-append-le (at + long w) (take at l ++ digits 8 w) (drop (at + 8) l) within
           ∙ subst (λ (n : ℕ). take (n + long w) (take at l ++ digits 8 w) ≡ take at l ++ take (long w) (digits 8 w)) whole (take-append-add (take at l) (digits 8 w) (long w))));
     }
+
+module _ {l₀ l : List ℕ} {at r : ℕ} {t : List ℕ} (p : Puts l₀ at t r l) where
+  pub then-text : {u : List ℕ} {r′ : ℕ} {l′ : List ℕ} → Writes l r u r′ l′ → length l′ ≡ length l → Puts l₀ at (t ++ u) r′ l′
+  then-text w kept = then-puts p (record { wrote = w; same = kept })
+
+  pub then-word : (w : ℕ) → long w ≤ 7 → (r′ : ℕ) (l′ : List ℕ) → at + length t + 8 ≤ length l₀ → (r′ ≡ placeAfter l r w) × (l′ ≡ putAt l r w) → length l′ ≡ length l
+      → Puts l₀ at (t ++ textOf w) r′ l′
+  then-word w short r′ l′ room told kept = then-text (put-word w (omega arith) l r r′ l′ (omega (arith, p .wrote .place, p .same)) told) kept
+
+  pub has-room : (n k : ℕ) → at + n + 8 ≤ length l₀ → length t + k ≤ n → r + k + 8 ≤ length l
+  has-room n k room fits = omega (arith, p .wrote .place, p .same)

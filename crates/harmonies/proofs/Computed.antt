@@ -8,7 +8,8 @@ use Rattle.notes.specs.NoteText.{letterName}
 use Rattle.names.specs.Names.{flats}
 use Rattle.rules.proofs.Computed.{named-computed}
 use Rattle.harmonies.specs.Xml.{_then_, written}
-use Rattle.harmonies.specs.Harmony.{outside, silent, degreesOf, decimal, integer, degrees, harmony, harmonyOf}
+use Rattle.harmonies.specs.Kinds.{outside, silent, degreesOf}
+use Rattle.harmonies.specs.Harmony.{decimal, integer, degrees, harmony, harmonyOf}
 use Rattle.harmonies.specs.Chords.{kinds, tonesIn, tonesOf, aboveRoot, toneOn, classesOf, lessSubtracted, withAdded, sounding}
 use Rattle.harmonies.specs.Reading.{textIn, digitsFrom, numberOf, integerOf, placeOf, classIn}
 use Rattle.harmonies.proofs.Parsed.{plain, isName, clean}

@@ -10,7 +10,8 @@ use Rattle.intervals.specs.Sets.{isRooted}
 use Rattle.intervals.specs.declared.bass.Bass.{Bass}
 use Rattle.intervals.specs.declared.bass.Bass.the-variants.{None, Class}
 use Rattle.harmonies.specs.Xml.{written}
-use Rattle.harmonies.specs.Harmony.{flats, rootOf, bassOf, degreesOf, harmonyOf, longest}
+use Rattle.harmonies.specs.Kinds.{degreesOf}
+use Rattle.harmonies.specs.Harmony.{flats, rootOf, bassOf, harmonyOf, longest}
 use Rattle.harmonies.proofs.Computed.{harmony-computed}
 use Rattle.harmonies.proofs.Lossless.{class-of, tail-short}
 use Rattle.harmonies.proofs.Texts.{degrees-long, harmony-text}

@@ -21,7 +21,8 @@ use Rattle.rules.specs.Classes.{intervalsOf}
 use Rattle.rules.specs.Parts.{hasThird, withThird, suffixQuality}
 use Rattle.harmonies.specs.Xml.{Elements, _then_, leaf, node}
 use Rattle.harmonies.specs.Degrees.{Degree}
-use Rattle.harmonies.specs.Harmony.{flats, Kind, kindOf, degreesFrom, degreesOf, decimal, integer, pitchOf, bassOf, harmony, harmonyOf}
+use Rattle.harmonies.specs.Kinds.{Kind, kindOf, degreesFrom, degreesOf}
+use Rattle.harmonies.specs.Harmony.{flats, decimal, integer, pitchOf, bassOf, harmony, harmonyOf}
 use Rattle.harmonies.specs.Chords.{tonesOf, sounding}
 use Rattle.harmonies.specs.Reading.{inside, textIn, isThere, classIn, bassIn, degreesIn, Harmony, harmonyIn, readHarmony}
 use Rattle.harmonies.proofs.Parsed.{plain, isName, clean, clean-then, parsed}

@@ -10,7 +10,8 @@ use Rattle.notes.specs.declared.note.Note.{Note}
 use Rattle.rules.specs.Parts.{suffixQuality}
 use Rattle.harmonies.specs.Xml.{Elements, none, element, _then_, leaf, node, written}
 use Rattle.harmonies.specs.Degrees.{Degree}
-use Rattle.harmonies.specs.Harmony.{kindOf, degreesOf, decimal, integer, rootOf, bassOf, degree, degrees, harmony, harmonyOf}
+use Rattle.harmonies.specs.Kinds.{kindOf, degreesOf}
+use Rattle.harmonies.specs.Harmony.{decimal, integer, rootOf, bassOf, degree, degrees, harmony, harmonyOf}
 use Rattle.harmonies.proofs.Lossless.{sizes}
 
 pub written-then : (a b : Elements) → written (a then b) ≡ written a ++ written b

@@ -12,7 +12,8 @@ use Rattle.intervals.specs.declared.interval.IntDegree.the-variants.{Third, Fif
 use Rattle.rules.specs.Classes.{keep}
 use Rattle.harmonies.specs.Xml.{_then_, written}
 use Rattle.harmonies.specs.Degrees.{Degree}
-use Rattle.harmonies.specs.Harmony.{Kind, subtractOf, silent, decimal, integer, degree, degrees}
+use Rattle.harmonies.specs.Kinds.{Kind, subtractOf, silent}
+use Rattle.harmonies.specs.Harmony.{decimal, integer, degree, degrees}
 use Rattle.harmonies.proofs.Texts.{written-then, degree-text}
 use Rattle.musicxml.specs.declared.degrees.Row.{Row}
 use Rattle.musicxml.specs.declared.texts.Part.the-variants.{Add, Subtract}

@@ -1,4 +1,3 @@
-pub mod Putting
 pub mod Outside
 pub mod Degree
 pub mod Pitched

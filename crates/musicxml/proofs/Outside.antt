@@ -1,8 +1,7 @@
 -- The intervals outside a kind, by bits: those of the set of all that are outside it which a set has.
 --     outside-bits     they are read off the bitwise and
 --     outside-small    which is a set of intervals
-use Rattle.answer.proofs.Kit.{_≡_, refl, sym, ap, _∙_, Bool, true, false, cond, not, _&&_, _||_, and-false, List, [], _∷_, map, ℕ, _^_, _<_, bitAnd, T, eqb, eqb-true}
-use lib.Bits.{and-lt}
+use Rattle.answer.proofs.Kit.{_≡_, refl, sym, ap, _∙_, Bool, true, false, cond, not, _&&_, _||_, and-false, List, [], _∷_, map, ℕ, _^_, _<_, bitAnd, and-lt, T, eqb, eqb-true}
 use Rattle.answer.proofs.Tests.{is-true, all}
 use Rattle.intervals.specs.Sets.{has, isIn, isRooted}
 use Rattle.intervals.specs.Intervals.{intervals, nth, numbered, numberOf, setOf, classOf}
@@ -14,7 +13,7 @@ use Rattle.intervals.proofs.Members.{bits-has}
 use Rattle.intervals.proofs.Rows.{at-interval, numbered-back, set-small}
 use Rattle.rules.specs.Classes.{keep, intervalsIn, intervalsOf}
 use Rattle.rules.proofs.Counted.{set-reads}
-use Rattle.harmonies.specs.Harmony.{Kind, tones, outside}
+use Rattle.harmonies.specs.Kinds.{Kind, tones, outside}
 
 -- two intervals of one number are the same
 orElse : Interval → MaybeInterval → Interval

@@ -6,7 +6,8 @@ use Rattle.intervals.specs.Intervals.{numbered}
 use Rattle.rules.specs.Classes.{intervalsIn}
 use Rattle.rules.proofs.First.{First, lowest-of, bit, none-in}
 use Rattle.harmonies.specs.Xml.{written}
-use Rattle.harmonies.specs.Harmony.{addOf, degree, degrees}
+use Rattle.harmonies.specs.Kinds.{addOf}
+use Rattle.harmonies.specs.Harmony.{degree, degrees}
 use Rattle.harmonies.proofs.Texts.{written-then}
 use Rattle.musicxml.specs.private.Degrees.{numberedAdd}
 

@@ -9,7 +9,8 @@ use Rattle.rules.specs.Classes.{intervalsIn, intervalsOf}
 use Rattle.rules.specs.Parts.{suffixQuality}
 use Rattle.names.specs.Names.{flats}
 use Rattle.harmonies.specs.Xml.{written}
-use Rattle.harmonies.specs.Harmony.{Kind, kindOf, addOf, subtractOf, outside, silent, bassOf, degrees, degreesOf, harmonyOf}
+use Rattle.harmonies.specs.Kinds.{Kind, kindOf, addOf, subtractOf, outside, silent, degreesOf}
+use Rattle.harmonies.specs.Harmony.{bassOf, degrees, harmonyOf}
 use Rattle.harmonies.proofs.Lossless.{kind-sounds}
 use Rattle.harmonies.proofs.Texts.{harmony-text}
 use Rattle.musicxml.specs.declared.kinds.Kind as kinds

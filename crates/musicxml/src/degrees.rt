@@ -9,7 +9,8 @@ ghost use Rattle.answer.specs.Words.{long};
 ghost use Rattle.answer.specs.Written.{Writes};
 ghost use Rattle.intervals.specs.Intervals.{numbered};
 ghost use Rattle.rules.specs.Classes.{intervalsIn};
-ghost use Rattle.harmonies.specs.Harmony.{addOf, degree, degrees};
+ghost use Rattle.harmonies.specs.Kinds.{addOf};
+ghost use Rattle.harmonies.specs.Harmony.{degree, degrees};
 ghost use Rattle.harmonies.specs.Xml.{written};
 ghost use Rattle.musicxml.specs.private.Degrees.{degreeText, numberedAdd, IsRow, subtractWhere};
 

@@ -9,7 +9,8 @@ use Rattle.intervals.specs.declared.interval.Interval.the-variants.{Unison}
 use Rattle.intervals.specs.declared.interval.MaybeInterval.{MaybeInterval}
 use Rattle.intervals.specs.declared.interval.MaybeInterval.the-variants.{Is, Nothing}
 use Rattle.harmonies.specs.Degrees.{Degree}
-use Rattle.harmonies.specs.Harmony.{addOf, decimal, integer}
+use Rattle.harmonies.specs.Kinds.{addOf}
+use Rattle.harmonies.specs.Harmony.{decimal, integer}
 use Rattle.musicxml.specs.declared.degrees.Row.{Row}
 use Rattle.musicxml.specs.declared.texts.Part.{Part}
 use Rattle.musicxml.specs.declared.texts.Part.the-variants.{DegreeValue, DegreeAlter, DegreeType, Subtract}

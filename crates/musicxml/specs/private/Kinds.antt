@@ -3,7 +3,7 @@ use mathlib.Core.Path.{_≡_}
 use Rattle.intervals.specs.Intervals.{intervals, setOf, classOf, toDegreeOf}
 use Rattle.intervals.specs.declared.interval.IntDegree.the-variants.{Third, Fifth}
 use Rattle.qualities.specs.declared.quality.ChordQuality.{ChordQuality}
-use Rattle.harmonies.specs.Harmony.{kindOf, outside}
+use Rattle.harmonies.specs.Kinds.{kindOf, outside}
 use Rattle.musicxml.specs.declared.kinds.Kind.{Kind}
 use Rattle.musicxml.specs.private.Texts.{Says}
 

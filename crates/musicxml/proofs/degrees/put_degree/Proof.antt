@@ -5,7 +5,7 @@ use Rattle.answer.proofs.Writing.{Puts, no-puts}
 use Rattle.musicxml.specs.declared.texts.Part.the-variants.{DegreeValue, DegreeAlter, DegreeType}
 use Rattle.musicxml.specs.private.Texts.{partText}
 use Rattle.musicxml.specs.private.Degrees.{degreeText}
-use Rattle.musicxml.proofs.Putting.{then-word, then-text, has-room}
+use Rattle.answer.proofs.Texts.{then-word, then-text, has-room}
 use Rattle.musicxml.proofs.degrees.put_degree.Statement.{statement}
 use Rattle.musicxml.proofs.degrees.put_degree.Tie as tie
 

@@ -7,7 +7,8 @@ use Rattle.rules.specs.Classes.{intervalsIn}
 use Rattle.rules.specs.Parts.{suffixQuality}
 use Rattle.names.specs.Names.{flats}
 use Rattle.harmonies.specs.Xml.{written}
-use Rattle.harmonies.specs.Harmony.{addOf, bassOf, degrees}
+use Rattle.harmonies.specs.Kinds.{addOf}
+use Rattle.harmonies.specs.Harmony.{bassOf, degrees}
 use Rattle.harmonies.proofs.Long.{harmony-short}
 use Rattle.musicxml.specs.declared.kinds.Kind.{Kind}
 use Rattle.musicxml.specs.declared.texts.Part.the-variants.{KindEnd, HarmonyEnd}
@@ -15,7 +16,7 @@ use Rattle.musicxml.specs.private.Texts.{partText, wordsText}
 use Rattle.musicxml.specs.private.Kinds.{IsKind}
 use Rattle.musicxml.specs.private.Degrees.{subtractWhere}
 use Rattle.musicxml.proofs.Pitched.{rootText}
-use Rattle.musicxml.proofs.Putting.{then-text, has-room}
+use Rattle.answer.proofs.Texts.{then-text, has-room}
 use Rattle.musicxml.proofs.Whole.{whole, few, third-class, fifth-class}
 use Rattle.musicxml.proofs.harmony.put_harmony.Statement.{statement}
 use Rattle.musicxml.proofs.harmony.put_harmony.Tie as tie

@@ -6,7 +6,7 @@ use Rattle.names.specs.Names.{flats, nameOf}
 use Rattle.musicxml.specs.private.Texts.{partText}
 use Rattle.musicxml.specs.private.Pitches.{alterWhere, pitchText}
 use Rattle.musicxml.proofs.Pitched.{letterWord, letter-short, letter-text, name-long}
-use Rattle.musicxml.proofs.Putting.{then-word, then-text, has-room}
+use Rattle.answer.proofs.Texts.{then-word, then-text, has-room}
 use Rattle.musicxml.proofs.harmony.put_pitch.Statement.{statement}
 use Rattle.musicxml.proofs.harmony.put_pitch.Tie as tie
 

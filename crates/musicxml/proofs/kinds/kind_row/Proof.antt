@@ -4,7 +4,7 @@ use Rattle.answer.specs.Words.{bytes, digits, textOf}
 use Rattle.intervals.specs.Sets.{isIn}
 use Rattle.intervals.specs.Intervals.{intervals, setOf}
 use Rattle.rules.specs.Classes.{keep}
-use Rattle.harmonies.specs.Harmony.{outside}
+use Rattle.harmonies.specs.Kinds.{outside}
 use Rattle.musicxml.specs.private.Texts.{wordsText, areWords}
 use Rattle.musicxml.proofs.kinds.kind_row.Statement.{statement}
 use Rattle.musicxml.proofs.kinds.kind_row.Tie as tie

@@ -3,7 +3,7 @@ use Rattle.answer.proofs.Kit.{_&&_, arith, leb→le, length-append, now, needs}
 use Rattle.answer.proofs.Tests.{left, right, said}
 use Rattle.answer.proofs.Writing.{no-puts}
 use Rattle.musicxml.specs.private.Texts.{wordsText, isWord, areWords}
-use Rattle.musicxml.proofs.Putting.{then-word}
+use Rattle.answer.proofs.Texts.{then-word}
 use Rattle.musicxml.proofs.texts.put_text.Statement.{statement}
 use Rattle.musicxml.proofs.texts.put_text.Tie as tie
 
