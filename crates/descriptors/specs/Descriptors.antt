@@ -6,6 +6,8 @@ use Rattle.answer.specs.declared.refusal.Refusal.the-variants.{NotASet}
 use Rattle.intervals.specs.Sets.{isRooted}
 use Rattle.intervals.specs.Intervals.{setOf}
 use Rattle.intervals.specs.declared.interval.Interval.the-variants.{Ninth}
+use Rattle.qualities.specs.declared.quality.QualityAnswer.{QualityAnswer}
+use Rattle.qualities.specs.declared.quality.QualityAnswer.the-variants as Quality
 use Rattle.rules.specs.Classes.{only, intervalsOf}
 use Rattle.rules.specs.Parts.{suffixQuality, isSus, alterationsOf, lastAdd, omitThird, omitFifth}
 use Rattle.rules.specs.Stack.{modifierOf, addsOf}
@@ -35,3 +37,7 @@ descriptorOf s =
 -- what a call answers: the descriptor, or refusal 1
 unfoldable pub descriptorAnswer : ℕ → DescriptorAnswer
 descriptorAnswer s = cond (isRooted s) (Is (descriptorOf s)) (Refused NotASet)
+
+-- the quality that a rooted set shows in its suffix, or refusal 1
+unfoldable pub shownAnswer : ℕ → QualityAnswer
+shownAnswer s = cond (isRooted s) (Quality.Is (suffixQuality s)) (Quality.Refused NotASet)

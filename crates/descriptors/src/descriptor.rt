@@ -6,6 +6,7 @@ use crate::classes::CLASS_5;
 use crate::classes::CLASS_9;
 use crate::classes::intervals;
 use crate::kinds::kind_of;
+use crate::showing::shown_quality;
 use answer::refusal::Refusal;
 use intervals::interval::AUGMENTED_FIFTH;
 use intervals::interval::DIMINISHED_FIFTH;
@@ -16,7 +17,6 @@ use intervals::interval::Interval;
 use intervals::interval::MAJOR_SEVENTH;
 use intervals::interval::MAJOR_SIXTH;
 use intervals::interval::MAJOR_THIRD;
-use intervals::interval::MINOR_THIRD;
 use intervals::interval::MaybeInterval;
 use intervals::interval::NINTH;
 use intervals::interval::PERFECT_FIFTH;
@@ -25,19 +25,10 @@ use intervals::interval::SHARP_NINTH;
 use intervals::interval::THIRTEENTH;
 use intervals::set::is_rooted;
 use qualities::quality::ChordQuality;
-use qualities::quality::QualityAnswer;
 ghost use mathlib.Core.Path.{_≡_};
-ghost use mathlib.Core.Bool.{true};
-ghost use Prim.Native.Nat.{_<_};
-ghost use Rattle.intervals.specs.Sets.{isRooted};
-ghost use Rattle.intervals.specs.Intervals.{setOf};
-ghost use Rattle.rules.specs.Classes.{intervalsOf};
-ghost use Rattle.rules.specs.Parts.{withThird, suffixQuality};
 ghost use Rattle.rules.specs.private.Steps.{extensionsFrom, unstackedFrom, modifierFrom, addsFrom, nineFrom, lastFrom, omittedThirdFrom, omittedFifthFrom};
 ghost use Rattle.descriptors.specs.Descriptors.{descriptorAnswer};
 ghost use Rattle.descriptors.specs.private.Split.{Splits};
-
-const THIRDS: u32 = MINOR_THIRD | MAJOR_THIRD;
 
 const FIFTHS: u32 = DIMINISHED_FIFTH | PERFECT_FIFTH | AUGMENTED_FIFTH;
 
@@ -73,27 +64,6 @@ pub struct Split {
     pub modifier: MaybeInterval,
     pub adds: u32,
     pub nine: u32,
-}
-
-fn shown_quality(set: u32, intervals: u32) -> ChordQuality
-    requires { ⌜ (isRooted set ≡ true) × (intervals ≡ setOf (intervalsOf set)) ⌝ }
-    ensures { λ r. ⌜ r ≡ suffixQuality set ⌝ }
-{
-    match qualities::quality::quality(with_third(set, intervals)) {
-        QualityAnswer::Is(quality) => quality,
-        QualityAnswer::Refused(_) => ChordQuality::Maj,
-    }
-}
-
-// If neither third is among the intervals, class 4 is put in.
-fn with_third(set: u32, intervals: u32) -> u32
-    requires { ⌜ (isRooted set ≡ true) × (intervals ≡ setOf (intervalsOf set)) ⌝ }
-    ensures { λ r. ⌜ (r ≡ withThird set) × (r < 4096) ⌝ }
-{
-    if intervals & THIRDS == 0 {
-        return set | CLASS_4;
-    }
-    set
 }
 
 // The intervals within a mask; a major sixth becomes 13.
@@ -212,7 +182,7 @@ pub fn describe(set: u32) -> DescriptorAnswer
         return DescriptorAnswer::Refused(Refusal::NotASet);
     }
     let found = intervals(set);
-    let quality = shown_quality(set, found);
+    let quality = shown_quality(set);
     let alterations = found & quality.alteration_mask();
     let extensions = within(found, quality.extension_mask());
     let split = split_extensions(quality, alterations, extensions);

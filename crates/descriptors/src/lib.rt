@@ -2,3 +2,4 @@
 pub mod classes;
 pub mod descriptor;
 pub mod kinds;
+pub mod showing;

@@ -9,13 +9,14 @@ use answer::output::Output;
 use answer::output::give;
 use answer::refusal::Refusal;
 use answer::word::put;
-use descriptors::descriptor::DescriptorAnswer;
-use descriptors::descriptor::describe;
+use descriptors::classes::intervals;
+use descriptors::showing::shown;
 use intervals::bass::Bass;
 use intervals::bass::is_bass;
 use intervals::set::LAST_CLASS;
 use names::table::class_name;
 use qualities::quality::ChordQuality;
+use qualities::quality::QualityAnswer;
 ghost use mathlib.Core.Path.{_≡_};
 ghost use mathlib.Core.Bool.{true};
 ghost use Prim.Native.Nat.{_+_, _<_, _≤_};
@@ -24,9 +25,7 @@ ghost use Rattle.answer.specs.Replies.{Answered};
 ghost use Rattle.answer.specs.Words.{long};
 ghost use Rattle.answer.specs.Written.{Writes};
 ghost use Rattle.intervals.specs.Bass.{isBass};
-ghost use Rattle.intervals.specs.Intervals.{setOf};
 ghost use Rattle.intervals.specs.Sets.{isRooted};
-ghost use Rattle.rules.specs.Classes.{intervalsOf};
 ghost use Rattle.rules.specs.Parts.{suffixQuality};
 ghost use Rattle.harmonies.specs.Harmony.{flats, bassOf, harmonyOf};
 ghost use Rattle.harmonies.specs.Xml.{written};
@@ -47,34 +46,27 @@ const FIVE: u64 = 0x0100000000000035; // 5
 pub fn harmony(root: u32, bass: Bass, set: u32, out: &mut [u8]) -> Output
     ensures { λ r. ⌜ Answered (harmonyReply flats root bass set) (now (out .entry)) r (now (out .exit)) ⌝ }
 {
-    match describe(set) {
-        DescriptorAnswer::Is(chord) => {
+    match shown(set) {
+        QualityAnswer::Is(quality) => {
             if !((root <= LAST_CLASS) & is_bass(bass)) {
                 return Output::Refused(Refusal::BadClass);
             }
-            let quality = chord.quality;
             let mut buffer = [0u8; ROOM];
-            let end = put_harmony(&mut buffer, root, bass, set, quality, chord.intervals);
+            let end = put_harmony(&mut buffer, root, bass, set, quality);
             give(&buffer[..end], out)
         }
-        DescriptorAnswer::Refused(_) => Output::Refused(Refusal::NotASet),
+        QualityAnswer::Refused(_) => Output::Refused(Refusal::NotASet),
     }
 }
 
 // The element at the front of a buffer. What a kind has beside its triad sounds, or it would be another kind.
-fn put_harmony(
-    buffer: &mut [u8],
-    root: u32,
-    bass: Bass,
-    set: u32,
-    quality: ChordQuality,
-    intervals: u32,
-) -> usize
-    requires { ⌜ (root < 12) × (isBass bass ≡ true) × (isRooted set ≡ true) × (quality ≡ suffixQuality set) × (intervals ≡ setOf (intervalsOf set)) × (1155 ≤ length (now buffer)) ⌝ }
+fn put_harmony(buffer: &mut [u8], root: u32, bass: Bass, set: u32, quality: ChordQuality) -> usize
+    requires { ⌜ (root < 12) × (isBass bass ≡ true) × (isRooted set ≡ true) × (quality ≡ suffixQuality set) × (1155 ≤ length (now buffer)) ⌝ }
     ensures { λ r. ⌜ Writes (now (buffer .entry)) 0 (harmonyOf flats root bass set) r (now (buffer .exit)) ⌝ }
 {
     let kind = kind_row(quality);
     let name = kind.name;
+    let added = kind.outside & intervals(set);
     let after_root = put_pitch(
         buffer,
         0,
@@ -87,7 +79,7 @@ fn put_harmony(
     let after_name = put_text(buffer, after_root, name);
     let after_kind = put_part(buffer, after_name, Part::KindEnd);
     let after_bass = put_bass(buffer, after_kind, bass);
-    let after_adds = put_adds(buffer, after_bass, kind.outside & intervals);
+    let after_adds = put_adds(buffer, after_bass, added);
     let after_third = put_subtract(buffer, after_adds, set, kind.third, THREE);
     let after_fifth = put_subtract(buffer, after_third, set, kind.fifth, FIVE);
     put_part(buffer, after_fifth, Part::HarmonyEnd)

@@ -55,7 +55,7 @@ tests s =
     let ot = omitThird s in
     let of = omitFifth s in
     let om = ot ++ of in
-    eqb (withThirdFrom s n) (withThird s)
+    eqb (withThirdFrom s) (withThird s)
     ∷ same-bool (susFrom s) (isSus s)
     ∷ eqb (bitAnd n (alterationBits q)) als
     ∷ eqb (extensionsFrom n (extensionBits q)) ex

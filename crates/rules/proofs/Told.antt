@@ -31,7 +31,7 @@ module _ (s : ℕ) (is : isRooted s ≡ true) where
   q = suffixQuality s
 
   -- the set that the quality is of
-  pub with-third : withThirdFrom s (setOf i) ≡ withThird s
+  pub with-third : withThirdFrom s ≡ withThird s
   with-third = eqb→eq _ _ (rule 0 s is)
 
   pub sus-told : susFrom s ≡ isSus s

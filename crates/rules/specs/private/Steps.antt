@@ -9,9 +9,9 @@ use Rattle.intervals.specs.declared.interval.Interval.the-variants.{Ninth, Elev
 use Rattle.intervals.specs.declared.interval.MaybeInterval.{MaybeInterval}
 use Rattle.intervals.specs.declared.interval.MaybeInterval.the-variants.{Is, Nothing}
 
--- the set with class 4 put in where it has neither third
-abbrev pub withThirdFrom : ℕ → ℕ → ℕ
-withThirdFrom s i = test (bitAnd i 24) 0 (bitOr s 16) s
+-- the set with class 4 put in where it has neither class 3 nor class 4
+abbrev pub withThirdFrom : ℕ → ℕ
+withThirdFrom s = test (bitAnd s 24) 0 (bitOr s 16) s
 
 -- sus: of classes 3 and 5 only the second
 abbrev pub susFrom : ℕ → Bool

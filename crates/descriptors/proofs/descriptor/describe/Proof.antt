@@ -42,7 +42,7 @@ describe-spec = tie.close (tie.spec
     (λ c κs. search needs)
     (λ c. not-rooted _ (refused _ _ (c .before .is-rooted .ensures) (c .if1 .taken)))
     (λ c κs. search needs)
-    (λ c κs. (is (c .before), intervals-told c))
+    (λ c κs. is (c .before))
     (λ c κs. search needs) (λ c κs. search needs) (λ c κs. search needs) (λ c κs. search needs) (λ c κs. search needs) (λ c κs. search needs)
     (λ c κs. search needs)
     returns-2)

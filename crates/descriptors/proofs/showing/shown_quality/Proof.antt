@@ -1,8 +1,8 @@
--- `descriptors::descriptor::shown_quality` meets its contract: a set with a third put in has a quality.
+-- `descriptors::showing::shown_quality` meets its contract: a set with a third put in has a quality.
 use Rattle.answer.proofs.Kit.{needs}
 use Rattle.descriptors.proofs.Shown.{shown, refused}
-use Rattle.descriptors.proofs.descriptor.shown_quality.Statement.{statement}
-use Rattle.descriptors.proofs.descriptor.shown_quality.Tie as tie
+use Rattle.descriptors.proofs.showing.shown_quality.Statement.{statement}
+use Rattle.descriptors.proofs.showing.shown_quality.Tie as tie
 
 pub shown-quality-spec : {M : Type 1} → statement M
 shown-quality-spec = tie.close (tie.spec
