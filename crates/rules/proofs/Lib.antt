@@ -6,3 +6,4 @@ pub mod Told
 pub mod Short
 pub mod First
 pub mod Counted
+pub mod Walk

@@ -1,9 +1,11 @@
--- The loop of `put_tones`: where it stands, what a turn does, and what is given of the row that it writes, for any table of degrees.
-use Rattle.answer.proofs.Kit.{_≡_, refl, ap, _∙_, List, [], _∷_, _++_, append-assoc, ℕ, zero, suc, _+_, _*_, _%_, _-_, _^_, _≤_, _<_, arith, not-suc-le-zero, trailingZeros, T, length, take, drop, length-append}
+-- The row that `put_tones` writes, a tone for each interval, and what is given of it, for any table of degrees.
+--     rowOf, row-each     the row, and that it is each interval's tone
+--     puts                one tone
+--     row-some, row-long, given     how long it is, and its names joined
+use Rattle.answer.proofs.Kit.{_≡_, refl, ap, _∙_, List, [], _∷_, _++_, append-assoc, ℕ, zero, suc, _+_, _*_, _-_, _≤_, arith, not-suc-le-zero, T, length, take, drop, length-append}
 use Rattle.answer.specs.Words.{bytes, low, packed, placeAfter, putAt}
 use Rattle.answer.proofs.Digits.{isShort, areBytes, short-length}
-use Rattle.answer.proofs.Tests.{left}
-use Rattle.answer.proofs.Writing.{Puts, no-puts, then-put, SoFar, so-far-none, so-far-next, so-far-all}
+use Rattle.answer.proofs.Writing.{Puts, no-puts, then-put}
 use Rattle.intervals.specs.Intervals.{numbered}
 use Rattle.notes.specs.declared.note.Note.{Note}
 use Rattle.intervals.specs.declared.interval.Interval.{Interval}
@@ -11,66 +13,40 @@ use Rattle.intervals.specs.declared.interval.IntDegree.{IntDegree}
 use Rattle.intervals.specs.declared.interval.MaybeInterval.{MaybeInterval}
 use Rattle.intervals.specs.declared.interval.MaybeInterval.the-variants.{Is, Nothing}
 use Rattle.rules.specs.Classes.{intervalsIn}
-use Rattle.rules.proofs.First.{First, lowest-of, bit, none-in}
+use Rattle.rules.proofs.First.{none-in}
+use Rattle.rules.proofs.Walk.{Each}
 use Rattle.spelling.specs.Tones.{toneNames, spaced, joined}
 use Rattle.spelling.specs.private.Numbers.{numberedName}
 use Rattle.spelling.proofs.Spelled.{tone-short}
 
-abbrev rowOf : (Interval → IntDegree) → Note → ℕ → List ℕ
+abbrev pub rowOf : (Interval → IntDegree) → Note → ℕ → List ℕ
 rowOf degrees root set = spaced (toneNames degrees root (intervalsIn set))
 
-pub record Row (degrees : Interval → IntDegree) (root : Note) (l₀ : List ℕ) (set : ℕ) (l : List ℕ) (at left : ℕ) : Type 0 where
-  pub so-far : SoFar l₀ 0 (rowOf degrees root set) l at (rowOf degrees root left)
-  pub small : left < 2 ^ 23
-  pub room : at + 8 * length (intervalsIn left) + 8 ≤ length l
+-- the name of an interval's tone by its number
+abbrev nameAt : (Interval → IntDegree) → Note → ℕ → List ℕ
+nameAt degrees root k = numberedName degrees root (numbered k)
 
-pub begin : (degrees : Interval → IntDegree) (root : Note) (l : List ℕ) (set : ℕ) → set < 2 ^ 23 → 8 * length (intervalsIn set) + 8 ≤ length l
-    → Row degrees root l set l 0 set
-begin degrees root l set h room = record { so-far = so-far-none l 0 (rowOf degrees root set); small = h; room = omega (arith, room) }
+abbrev pub toneAt : (Interval → IntDegree) → Note → ℕ → List ℕ
+toneAt degrees root k = bytes " " ++ nameAt degrees root k
 
-pub numbered-short : (degrees : Interval → IntDegree) (root : Note) (m : MaybeInterval) → T (isShort (numberedName degrees root m))
+pub row-each : (degrees : Interval → IntDegree) (root : Note) → Each (rowOf degrees root) (toneAt degrees root)
+unfolding spaced
+row-each degrees root = record { none = rw none-in; more = λ set k f. rw (f .rest, f .there) (simp append-assoc) }
+
+numbered-short : (degrees : Interval → IntDegree) (root : Note) (m : MaybeInterval) → T (isShort (numberedName degrees root m))
 unfolding isShort areBytes
 numbered-short degrees root (Is i) = tone-short degrees root i
 numbered-short degrees root Nothing = tt
 
-module _ (degrees : Interval → IntDegree) (root : Note) (l₀ : List ℕ) (set : ℕ) (l : List ℕ) (at left : ℕ) (t : Row degrees root l₀ set l at left) where
-  pub end : left ≡ 0 → Puts l₀ 0 (rowOf degrees root set) at l
-  unfolding spaced
-  end e = so-far-all (t .so-far) (rw (e, none-in))
-
-  module _ (some : left ≡ 0 → ⊥) where
-    f : First left (trailingZeros 32 left)
-    f = lowest-of left some (t .small)
-
-    abbrev name : List ℕ
-    name = numberedName degrees root (numbered (trailingZeros 32 left))
-
-    -- what is left to write begins with the first interval's tone
-    split : rowOf degrees root left ≡ (bytes " " ++ name) ++ rowOf degrees root (left - 2 ^ trailingZeros 32 left)
-    unfolding spaced
-    split = rw (f .rest, f .there) (simp append-assoc)
-
-    -- a space and the name, from what the two calls told
-    pub puts : (r₁ : ℕ) (l₁ : List ℕ) → (r₁ ≡ placeAfter l at 0x0100000000000020) × (l₁ ≡ putAt l at 0x0100000000000020) → length l₁ ≡ length l
-        → (word r₂ : ℕ) (l₂ : List ℕ) → word ≡ packed name → (r₂ ≡ placeAfter l₁ r₁ word) × (l₂ ≡ putAt l₁ r₁ word) → length l₂ ≡ length l₁
-        → Puts l at (bytes " " ++ name) r₂ l₂
-    unfolding bytes low packed isShort areBytes
-    puts r₁ l₁ told₁ kept₁ word r₂ l₂ e told₂ kept₂ =
-        let long = ap length (f .rest) in
-        let space = then-put (no-puts l at) (bytes " ") tt 0x0100000000000020 r₁ l₁ refl (omega (arith, t .room)) told₁ kept₁ in
-        then-put space name (numbered-short degrees root (numbered (trailingZeros 32 left))) word r₂ l₂ e (omega (arith, t .room, long)) told₂ kept₂
-
-    pub turn : (r : ℕ) (l′ : List ℕ) → Puts l at (bytes " " ++ name) r l′ → Row degrees root l₀ set l′ r (left - (1 * 2 ^ trailingZeros 32 left) % 2 ^ 32)
-    unfolding bytes
-    turn r l′ p =
-        let long = ap length (f .rest) in
-        let short = short-length name (numbered-short degrees root (numbered (trailingZeros 32 left))) in
-        rw (bit left some (t .small))
-        record {
-          so-far = so-far-next (t .so-far) (bytes " " ++ name) _ split p;
-          small = omega (arith, t .small);
-          room = omega (arith, t .room, long, short, p .wrote .place, p .same);
-        }
+-- a space and the name, from what the two calls told
+pub puts : (degrees : Interval → IntDegree) (root : Note) (l : List ℕ) (at k : ℕ) → at + length (toneAt degrees root k) + 8 ≤ length l
+    → (r₁ : ℕ) (l₁ : List ℕ) → (r₁ ≡ placeAfter l at 0x0100000000000020) × (l₁ ≡ putAt l at 0x0100000000000020) → length l₁ ≡ length l
+    → (word r₂ : ℕ) (l₂ : List ℕ) → word ≡ packed (nameAt degrees root k) → (r₂ ≡ placeAfter l₁ r₁ word) × (l₂ ≡ putAt l₁ r₁ word) → length l₂ ≡ length l₁
+    → Puts l at (toneAt degrees root k) r₂ l₂
+unfolding bytes low packed isShort areBytes
+puts degrees root l at k room r₁ l₁ told₁ kept₁ word r₂ l₂ e told₂ kept₂ =
+    let space = then-put (no-puts l at) (bytes " ") tt 0x0100000000000020 r₁ l₁ refl (omega (arith, room)) told₁ kept₁ in
+    then-put space (nameAt degrees root k) (numbered-short degrees root (numbered k)) word r₂ l₂ e (omega (arith, room)) told₂ kept₂
 
 -- a row of some intervals has a byte
 pub row-some : (degrees : Interval → IntDegree) (root : Note) (found : List Interval) → 1 ≤ length found → 1 ≤ length (spaced (toneNames degrees root found))
