@@ -4,8 +4,12 @@
 
 #include "run.h"
 
+typedef void refuser(struct run *run, int64_t number);
+
 /* From `least` up, around each power of two, so that a number cut to fewer bits shows. */
-void numbers_above(struct run *run, int64_t least,
-                   void (*refuse)(struct run *run, int64_t number));
+void numbers_above(struct run *run, int64_t least, refuser *refuse);
+
+/* What is no class, as a root and as a bass: every byte above 11, and numbers above a byte. */
+void classes_above(struct run *run, refuser *refuse_root, refuser *refuse_bass);
 
 #endif

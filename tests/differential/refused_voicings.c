@@ -38,17 +38,6 @@ static void refuse_bass(struct run *run, int64_t bass)
     refuse_classes(run, 11, bass);
 }
 
-static void bad_classes(struct run *run)
-{
-    for (int64_t class = CLASSES; class < BYTES; class++) {
-        refuse_root(run, class);
-        if (class != NO_BASS)
-            refuse_bass(run, class);
-    }
-    numbers_above(run, BYTES, refuse_root);
-    numbers_above(run, BYTES, refuse_bass);
-}
-
 /* Bytes that are all good, and all bad: neither is looked at. */
 static void many_pairs(struct run *run, size_t classes, size_t intervals)
 {
@@ -98,7 +87,7 @@ static void bad_pairs(struct run *run)
 
 void refused_voicings(struct run *run)
 {
-    bad_classes(run);
+    classes_above(run, refuse_root, refuse_bass);
     too_many_pairs(run);
     bad_pairs(run);
 }

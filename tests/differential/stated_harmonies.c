@@ -8,7 +8,6 @@
 
 enum {
     CLASSES = 12,
-    BYTES = 256,
     SETS = 4096,
     LONGEST = HEMOTUSAP_HARMONY_ROOM,
     NO_BASS = HEMOTUSAP_NO_BASS
@@ -109,11 +108,5 @@ void stated_harmonies(struct run *run)
     for (int64_t set = 0; set < SETS; set += 2)
         refuse_set(run, set);
     numbers_above(run, SETS, refuse_set);
-    for (int64_t class = CLASSES; class < BYTES; class++) {
-        refuse_root(run, class);
-        if (class != NO_BASS)
-            refuse_bass(run, class);
-    }
-    numbers_above(run, BYTES, refuse_root);
-    numbers_above(run, BYTES, refuse_bass);
+    classes_above(run, refuse_root, refuse_bass);
 }

@@ -4,6 +4,7 @@
 --     told-computed        the degrees of a set, and what they tell
 --     harmony-computed     the bytes of an element
 use Rattle.answer.specs.Words.{bytes, same}
+use Rattle.intervals.specs.Sets.{without}
 use Rattle.notes.specs.NoteText.{letterName}
 use Rattle.names.specs.Names.{flats}
 use Rattle.rules.proofs.Computed.{named-computed}
@@ -23,7 +24,7 @@ unfolding numbers-computed letterName flats _then_ textIn placeOf classIn
 pitches-computed = tt
 
 unfoldable pub told-computed : Unit {0}
-unfolding named-computed outside silent kinds tonesIn tonesOf aboveRoot toneOn classesOf lessSubtracted withAdded sounding
+unfolding named-computed without outside silent kinds tonesIn tonesOf aboveRoot toneOn classesOf lessSubtracted withAdded sounding
 told-computed = tt
 
 unfoldable pub harmony-computed : Unit {0}

@@ -1,13 +1,13 @@
 -- What a reader knows of chords: MusicXML 4.0, `kind` and `degree`. Nothing here is taken from what writes the element: a table that both had could
 -- be wrong, and what is read would still be what was written.
 use mathlib.Core.Bool.{cond}
-use mathlib.Core.List.{List, [], _∷_}
-use Prim.Native.Nat.{ℕ, _+_, _-_, _*_, _/_, _%_, _^_}
+use mathlib.Core.List.{List, [], _∷_, map}
+use Prim.Native.Nat.{ℕ, _+_, _-_, _*_, _/_, _%_}
 use lib.Dec.{eqb}
 use lib.IntN.{pos, _+ℤ_}
 use lib.ListN.{getD}
 use Rattle.answer.specs.Words.{bytes, same}
-use Rattle.intervals.specs.Sets.{has}
+use Rattle.intervals.specs.Sets.{withMember, without, bits}
 use Rattle.notes.specs.Notes.{mod12}
 use Rattle.harmonies.specs.Degrees.{Degree}
 
@@ -61,29 +61,20 @@ unfoldable pub toneOn : List Tone → ℕ → ℕ
 toneOn [] d = 0
 toneOn (t ∷ more) d = cond (eqb (t .degree) d) (t .semitones) (toneOn more d)
 
--- a set with a class put in, once
-abbrev pub with : ℕ → ℕ → ℕ
-with s k = cond (has s k) s (s + 2 ^ k)
-
--- a set with a class taken out, if it is there
-abbrev pub without : ℕ → ℕ → ℕ
-without s k = cond (has s k) (s - 2 ^ k) s
-
 -- the classes of tones above the root
 unfoldable pub classesOf : List Tone → ℕ
-classesOf [] = 0
-classesOf (t ∷ more) = with (classesOf more) (t .semitones % 12)
+classesOf tones = bits (map (λ t. t .semitones % 12) tones)
 
 -- a set less what is subtracted, "relative to the degree already in the chord as specified by the kind element"
 unfoldable pub lessSubtracted : List Tone → List Degree → ℕ → ℕ
 lessSubtracted tones [] s = s
 lessSubtracted tones (d ∷ more) s =
-    lessSubtracted tones more (cond (same (d .type) (bytes "subtract")) (without s (mod12 (pos (toneOn tones (d .value)) +ℤ d .alter))) s)
+    lessSubtracted tones more (cond (same (d .type) (bytes "subtract")) (without (mod12 (pos (toneOn tones (d .value)) +ℤ d .alter)) s) s)
 
 -- a set with what is added, "relative to a dominant chord"
 unfoldable pub withAdded : List Degree → ℕ → ℕ
 withAdded [] s = s
-withAdded (d ∷ more) s = withAdded more (cond (same (d .type) (bytes "add")) (with s (mod12 (pos (aboveRoot (d .value)) +ℤ d .alter))) s)
+withAdded (d ∷ more) s = withAdded more (cond (same (d .type) (bytes "add")) (withMember (mod12 (pos (aboveRoot (d .value)) +ℤ d .alter)) s) s)
 
 -- the classes that a kind and degrees tell: the kind's tones, less the subtracted, with the added
 unfoldable pub sounding : List Tone → List Degree → ℕ

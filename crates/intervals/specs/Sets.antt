@@ -2,7 +2,7 @@
 -- when class 0 is in it"). Sets of intervals and of degrees are numbers of the same kind.
 use mathlib.Core.Bool.{Bool, true, false, not, cond, _&&_, _||_}
 use mathlib.Core.List.{List, [], _∷_}
-use Prim.Native.Nat.{ℕ, zero, suc, _+_, _/_, _%_, _^_}
+use Prim.Native.Nat.{ℕ, zero, suc, _+_, _-_, _/_, _%_, _^_}
 use lib.Dec.{eqb, leb}
 
 -- a number that is a set of classes
@@ -48,6 +48,10 @@ setWhere holds = setBelow 12 holds
 -- a set with a number put in, once
 abbrev pub withMember : ℕ → ℕ → ℕ
 withMember k s = cond (eqb (s / 2 ^ k % 2) 1) s (s + 2 ^ k)
+
+-- a set with a number taken out, if it is there
+unfoldable pub without : ℕ → ℕ → ℕ
+without k s = cond (has s k) (s - 2 ^ k) s
 
 -- the set of the numbers of a list
 abbrev pub bits : List ℕ → ℕ

@@ -6,9 +6,9 @@
 --     no-keys          where none is the nearest there is none
 use Rattle.answer.proofs.Kit.{_≡_, refl, sym, subst, Bool, true, false, cond, _||_, List, [], _∷_, List·Memᴰ, List·Memᴰ·head, List·Memᴰ·tail, List·Memᴰ·not-nil, List·Memᴰ·cases-cons, _⊎_, ⊎-elim, ℕ, zero, suc, _≤_, _<_, decLt, arith, eqb, lt-ltb, le-ltb}
 use mathlib.Core.Option.{Option, none, some, Option·elim, IsSome}
-use Rattle.intervals.specs.Sets.{has}
+use Rattle.intervals.specs.Sets.{has, without}
 use Rattle.pool.specs.declared.pool.Tone.{Tone}
-use Rattle.keys.specs.Choice.{distance, ToneKey, keysOfTones, unlessNearer, nearest, without, chosen, otherTones, placedIn}
+use Rattle.keys.specs.Choice.{distance, ToneKey, keysOfTones, unlessNearer, nearest, chosen, otherTones, placedIn}
 use Rattle.keys.proofs.Winner.{KeyOf, of-more, from-tones, IsOne, is-one}
 
 pub one-of : {A : Type 0} {a x : A} {l m n : List A} (b : Bool) → List·Memᴰ a (cond b (x ∷ l) m) → (List·Memᴰ a l → List·Memᴰ a n) → (List·Memᴰ a m → List·Memᴰ a n)

@@ -5,11 +5,11 @@
 --     keep-all       every offer of a chosen tone has one of 32 intervals
 use Rattle.answer.proofs.Kit.{_≡_, refl, sym, ap, _∙_, Bool, true, false, not, cond, _&&_, _||_, and-true, List, [], _∷_, map, ℕ, _-_, _^_, _<_, arith, T, eqb, eqb-true}
 use Rattle.answer.proofs.Tests.{all, at, is-true}
-use Rattle.intervals.specs.Sets.{has}
+use Rattle.intervals.specs.Sets.{has, without}
 use Rattle.intervals.proofs.Members.{taken-has}
 use Rattle.pool.specs.declared.pool.Tone.{Tone}
 use Rattle.keys.specs.declared.nearest.Offer.{Offer}
-use Rattle.keys.specs.Choice.{without, chosen}
+use Rattle.keys.specs.Choice.{chosen}
 use Rattle.keys.specs.private.Ranked.{nearestOf}
 use Rattle.intervals.proofs.Width.{within}
 use Rattle.keys.proofs.Best.{near-interval, others}

@@ -3,10 +3,10 @@
 use mathlib.Core.Bool.{cond, _&&_, _||_}
 use mathlib.Core.List.{List, [], _∷_, _++_, map}
 use mathlib.Core.Option.{Option, none, some, Option·elim}
-use Prim.Native.Nat.{ℕ, zero, suc, _+_, _-_, _^_}
+use Prim.Native.Nat.{ℕ, zero, suc, _+_, _-_}
 use lib.Dec.{eqb, leb, ltb}
 use lib.ListN.{length}
-use Rattle.intervals.specs.Sets.{has}
+use Rattle.intervals.specs.Sets.{has, without}
 use Rattle.pool.specs.declared.pool.Tone.{Tone}
 
 -- of so many keys from one on, up by twelves, those that are not below a lowest key and below a limit
@@ -52,10 +52,6 @@ unlessNearer wanted k (some later) = cond (ltb (distance wanted (later .key)) (d
 unfoldable pub nearest : ℕ → List ToneKey → Option ToneKey
 nearest wanted [] = none
 nearest wanted (k ∷ more) = some (unlessNearer wanted k (nearest wanted more))
-
--- a set of intervals without one
-unfoldable pub without : ℕ → ℕ → ℕ
-without k set = cond (has set k) (set - 2 ^ k) set
 
 -- the tones of a whole set of intervals, and the first tone of each interval of another
 unfoldable pub chosen : ℕ → ℕ → List Tone → List Tone

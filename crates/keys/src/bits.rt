@@ -1,7 +1,6 @@
 // A set of intervals as a number, with a bit for each one's number.
 ghost use mathlib.Core.Path.{_≡_};
-ghost use Rattle.intervals.specs.Sets.{has};
-ghost use Rattle.keys.specs.Choice.{without};
+ghost use Rattle.intervals.specs.Sets.{has, without};
 
 pub fn in_set(set: u32, number: u8) -> bool
     ensures { λ r. ⌜ r ≡ has set number ⌝ }

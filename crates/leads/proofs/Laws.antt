@@ -4,10 +4,10 @@
 --     IsLead, lead-is    the lead is a key of an unbarred tone, and none of theirs is nearer to the wanted one; or it is 0, and they have no key
 use Rattle.answer.proofs.Kit.{_≡_, refl, Bool, true, false, not, cond, _&&_, List, [], _∷_, List·Memᴰ, List·Memᴰ·tail, _⊎_, inl, inr, ℕ, _≤_, eqb}
 use mathlib.Core.Option.{Option, none, some, Option·elim}
-use Rattle.intervals.specs.Sets.{has}
+use Rattle.intervals.specs.Sets.{has, without}
 use Rattle.pool.specs.declared.pool.Tone.{Tone}
 use Rattle.pool.specs.Pool.{anyTone}
-use Rattle.keys.specs.Choice.{ToneKey, keysOfTones, distance, nearest, without, chosen}
+use Rattle.keys.specs.Choice.{ToneKey, keysOfTones, distance, nearest, chosen}
 use Rattle.keys.proofs.Kept.{without-has}
 use Rattle.keys.proofs.Winner.{KeyOf, IsOne, is-one, from-tones}
 use Rattle.keys.proofs.Among.{one-of, IsLeast, none-nearer, no-keys}

@@ -4,11 +4,11 @@ use mathlib.Core.List.{List, [], _∷_}
 use mathlib.Core.Option.{Option·elim}
 use Prim.Native.Nat.{ℕ}
 use lib.Dec.{eqb}
-use Rattle.intervals.specs.Sets.{isIn}
+use Rattle.intervals.specs.Sets.{isIn, without}
 use Rattle.intervals.specs.Intervals.{intervals, setOf}
 use Rattle.pool.specs.declared.pool.Tone.{Tone}
 use Rattle.pool.specs.Pool.{anyTone}
-use Rattle.keys.specs.Choice.{keysOf, ToneKey, keysOfTones, distance, nearest, without, chosen}
+use Rattle.keys.specs.Choice.{keysOf, ToneKey, keysOfTones, distance, nearest, chosen}
 
 -- "bases 1 or 11 apart"
 abbrev pub rubs : Tone → Tone → Bool

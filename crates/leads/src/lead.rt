@@ -11,10 +11,10 @@ ghost use mathlib.Core.Path.{_≡_};
 ghost use mathlib.Core.Bool.{cond};
 ghost use Prim.Native.Nat.{_≤_};
 ghost use lib.ListN.{take};
+ghost use Rattle.intervals.specs.Sets.{without};
 ghost use Rattle.pool.specs.Pool.{tonesOf};
 ghost use Rattle.pool.specs.private.Places.{laidOver, tonesIn, IsPool};
 ghost use Rattle.pool.specs.Order.{sorted};
-ghost use Rattle.keys.specs.Choice.{without};
 ghost use Rattle.leads.specs.Lead.{rubs, unbarred, owns, withoutLast, leadOf};
 ghost use Rattle.leads.specs.private.Leaves.{withoutAt, ledOf};
 

@@ -1,10 +1,10 @@
 -- What a voicing is made of, opened by one name: a declaration with the line `unfolding voicing-computed` computes voicings.
 use mathlib.Core.Option.{Option·elim}
-use Rattle.intervals.specs.Sets.{has, isIn}
+use Rattle.intervals.specs.Sets.{has, isIn, without}
 use Rattle.intervals.specs.Intervals.{intervals, nth, numbered, setOf}
 use Rattle.pool.specs.Pool.{tonesOf, anyTone}
 use Rattle.pool.specs.Order.{insert, sorted}
-use Rattle.keys.specs.Choice.{keysFrom, keysOf, keysOfTone, keysOfTones, nearest, without, chosen, otherTones, placedIn, placed}
+use Rattle.keys.specs.Choice.{keysFrom, keysOf, keysOfTone, keysOfTones, nearest, chosen, otherTones, placedIn, placed}
 use Rattle.leads.specs.Lead.{barring, lastOf, unbarred, owns, withoutLast, leadOf}
 use Rattle.voicings.specs.Guides.{holdsAny, sixths, sevenths, guides, tensions, guideKeys, tensionKeys}
 use Rattle.voicings.specs.Voicing.{aboveBass, above, voicingOf, arePairs, voicingReply}

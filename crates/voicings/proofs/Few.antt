@@ -2,9 +2,9 @@
 --     few-of, few-guides, few-tensions
 use Rattle.answer.proofs.Kit.{Bool, true, false, cond, _||_, List, [], _∷_, ℕ, zero, suc, _≤_, le-trans, arith, length}
 use mathlib.Core.Option.{Option, none, some, Option·elim}
-use Rattle.intervals.specs.Sets.{has}
+use Rattle.intervals.specs.Sets.{has, without}
 use Rattle.pool.specs.declared.pool.Tone.{Tone}
-use Rattle.keys.specs.Choice.{ToneKey, keysOfTones, nearest, without, chosen, otherTones, placedIn, placed}
+use Rattle.keys.specs.Choice.{ToneKey, keysOfTones, nearest, chosen, otherTones, placedIn, placed}
 use Rattle.voicings.specs.Guides.{guideKeys, tensionKeys}
 
 some-or-none : (o : Option ToneKey) (n : ℕ) (more : ToneKey → List ℕ) → ((k : ToneKey) → length (more k) ≤ n)

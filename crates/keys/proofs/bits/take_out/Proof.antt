@@ -1,7 +1,6 @@
 -- `keys::bits::take_out` meets its contract: a number in the set has a bit that the set is no less than.
 use Rattle.answer.proofs.Kit.{_≡_, sym, _∙_, true, ℕ, _^_, _<_, needs}
-use Rattle.intervals.specs.Sets.{has}
-use Rattle.keys.specs.Choice.{without}
+use Rattle.intervals.specs.Sets.{has, without}
 use Rattle.intervals.proofs.Members.{bit-least}
 use Rattle.intervals.proofs.Width.{within, bit-held}
 use Rattle.keys.proofs.bits.take_out.Statement.{statement}

@@ -1,8 +1,7 @@
 -- `leads::lead::barring` meets its contract: by whether the two rub, and whether the interval was free.
 use Rattle.answer.proofs.Kit.{_≡_, sym, ap, _∙_, Bool, true, false, cond, _&&_, ℕ, _-_, _*_, _%_, _^_, _≤_, _<_, mod-eq-of-lt, arith, needs}
 use mir.Val.{boolByte}
-use Rattle.intervals.specs.Sets.{has}
-use Rattle.keys.specs.Choice.{without}
+use Rattle.intervals.specs.Sets.{has, without}
 use Rattle.leads.specs.Lead.{rubs}
 use Rattle.intervals.proofs.Members.{bit-least}
 use Rattle.intervals.proofs.Width.{within, bit-held}

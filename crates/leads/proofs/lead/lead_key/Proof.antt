@@ -2,11 +2,11 @@
 -- best of all.
 use Rattle.answer.proofs.Kit.{_≡_, refl, sym, ap, _∙_, Bool, true, false, cond, _&&_, or-false, List, _∷_, map, ⊎-elim, ℕ, _+_, _-_, _%_, _^_, _≤_, _<_, zero-div, arith, eqb, ltb, length, getD, slice, needs}
 use mathlib.Core.Option.{Option, none, some, Option·elim}
-use Rattle.intervals.specs.Sets.{has}
+use Rattle.intervals.specs.Sets.{has, without}
 use Rattle.pool.specs.declared.pool.Tone.{Tone}
 use Rattle.keys.specs.declared.nearest.Offer.{Offer}
 use Rattle.pool.specs.private.Places.{tonesIn, blank}
-use Rattle.keys.specs.Choice.{ToneKey, keysOfTones, nearest, without, chosen}
+use Rattle.keys.specs.Choice.{ToneKey, keysOfTones, nearest, chosen}
 use Rattle.keys.specs.private.Ranked.{nothing, offered, nearestOf}
 use Rattle.leads.specs.Lead.{leadOf}
 use Rattle.keys.proofs.Best.{best, search-turn, found-near}
