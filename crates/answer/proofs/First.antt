@@ -9,7 +9,7 @@
 --     here, onward    it ends at one that the test finds, and goes on behind another
 --     from-0, at-end  begun at 0 it is `firstWhere`, and behind the last it finds nothing
 use mathlib.Core.Option.{Option, none, some}
-use Rattle.answer.proofs.Kit.{_≡_, refl, sym, subst, ap, _∙_, Bool, true, false, cond, List, [], _∷_, _++_, List·Memᴰ, List·Memᴰ·head, List·Memᴰ·tail, List·Memᴰ·not-nil, List·Memᴰ·cases-cons, ⊎-elim, ℕ, suc, _+_, _<_, add-zero, zero-add, arith, length, length-append}
+use Rattle.answer.proofs.Kit.{_≡_, refl, sym, ap, _∙_, Bool, true, false, cond, List, [], _∷_, _++_, List·Memᴰ, List·Memᴰ·head, List·Memᴰ·tail, List·Memᴰ·not-nil, List·Memᴰ·cases-cons, ⊎-elim, ℕ, suc, _+_, _<_, add-zero, zero-add, arith, length, length-append}
 use Rattle.answer.specs.First.{further, firstWhere}
 
 module _ {A : Type 0} (test : A → Bool) where

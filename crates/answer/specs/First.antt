@@ -1,7 +1,7 @@
 -- The first of a list that a test finds: paper 02, Q-1 ("The earliest bad pair counts").
 use mathlib.Core.Bool.{Bool, cond}
 use mathlib.Core.List.{List, [], _∷_}
-use mathlib.Core.Option.{Option, none, some, Option·elim}
+use mathlib.Core.Option.{Option, none, some}
 use Prim.Native.Nat.{ℕ, suc}
 
 -- one place on, behind an element that the test did not find

@@ -6,7 +6,7 @@
 --     fits-less              a narrow signed number is a wide one
 --     fits-sum               a number below 2^40 and a narrow signed one, added
 --     output-fits            the count of bytes written is at most the room
-use Rattle.answer.proofs.Kit.{_≡_, refl, sym, ap, subst, _∙_, Bool, true, false, cond, List, ℕ, zero, suc, _+_, _-_, _^_, _<_, _≤_, decLt, arith, leb→le, ℤ, pos, negsuc, negℤ, _+ℤ_, _-ℤ_, +ℤ-idl, min-eq-left, min-eq-right, length, mag, lt-ltb, le-ltb}
+use Rattle.answer.proofs.Kit.{_≡_, refl, sym, ap, subst, _∙_, Bool, true, false, cond, List, ℕ, zero, suc, _+_, _^_, _<_, _≤_, decLt, arith, leb→le, ℤ, pos, negsuc, negℤ, _+ℤ_, _-ℤ_, +ℤ-idl, min-eq-left, min-eq-right, length, mag, lt-ltb, le-ltb}
 use mir.Syntax.{w32, w64}
 use mir.Val.{SFits, toZ}
 use Rattle.answer.specs.Replies.{Reply, refuse, text, fits, outputOf}

@@ -5,7 +5,7 @@
 --     checked-says    so it is with `pairsChecked`
 --     said-only       and what a check that says so comes to is that outcome: each is given exactly in its case
 use mathlib.Core.Option.{Option, none, some, Option·elim}
-use Rattle.answer.proofs.Kit.{_≡_, refl, sym, ap, subst, _∙_, Bool, true, false, not, cond, _&&_, List, [], _∷_, _++_, List·Memᴰ, ℕ, _≤_, _<_, T, leb, leb→le, length, lt-leb, le-leb, leb-false, not-false, not-true}
+use Rattle.answer.proofs.Kit.{_≡_, refl, sym, ap, _∙_, Bool, true, false, cond, _&&_, List, _∷_, _++_, List·Memᴰ, ℕ, _≤_, _<_, leb, leb→le, length, lt-leb, le-leb, leb-false, not-false, not-true}
 use Rattle.answer.proofs.Tests.{left, right, said}
 use Rattle.answer.specs.First.{firstWhere}
 use Rattle.answer.proofs.First.{IsFirst, Finds, first-is, first-found, none-found}

@@ -5,7 +5,7 @@
 --     above-sounds   so is each key above the bass, but for that 0
 --     midi-keys      where the highest is at most 127, no key of a voicing is above 127
 --     product-keys   so it is with the product's range
-use Rattle.answer.proofs.Kit.{_≡_, sym, subst, _∙_, true, _&&_, List, [], _∷_, _++_, List·Memᴰ, List·Memᴰ·not-nil, List·Memᴰ·cases-cons, List·Memᴰ·append-cases, List·Memᴰ·eq-of-singleton, _⊎_, inl, inr, ⊎-elim, ℕ, suc, _+_, _%_, _≤_, _<_, mod-eq-of-lt, arith, leb, leb→le}
+use Rattle.answer.proofs.Kit.{_≡_, sym, subst, _∙_, true, List, [], _∷_, _++_, List·Memᴰ, List·Memᴰ·cases-cons, List·Memᴰ·append-cases, List·Memᴰ·eq-of-singleton, _⊎_, inl, inr, ⊎-elim, ℕ, suc, _+_, _%_, _≤_, _<_, mod-eq-of-lt, arith, leb, leb→le}
 use Rattle.answer.proofs.Tests.{said}
 use Rattle.answer.specs.declared.refusal.Checked.the-variants.{Passed}
 use Rattle.intervals.specs.Bass.{isBass}

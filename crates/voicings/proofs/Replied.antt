@@ -4,7 +4,7 @@
 --     gives-voicing    the voicing
 --     few-bass         at most two keys stand below the guides
 use Rattle.answer.proofs.Kit.{_≡_, Bool, true, false, _&&_, List, ℕ, _≤_, arith, leb, length}
-use Rattle.answer.specs.Replies.{refuse, text, unlessRefused}
+use Rattle.answer.specs.Replies.{refuse, text}
 use Rattle.answer.specs.declared.refusal.Checked.the-variants.{Passed, Refused}
 use Rattle.answer.specs.declared.refusal.Refusal.{Refusal}
 use Rattle.answer.specs.declared.refusal.Refusal.the-variants.{BadClass}

@@ -1,5 +1,5 @@
 -- `hemotusap::host::minus_placed` meets its contract: by whether 64 bits hold the number.
-use Rattle.answer.proofs.Kit.{_≡_, sym, _∙_, ℕ, _+_, _*_, _<_, _^_, arith, needs}
+use Rattle.answer.proofs.Kit.{sym, _∙_, ℕ, _+_, _*_, _<_, _^_, arith, needs}
 use mir.Facts.{toZ-ofZ}
 use Rattle.hemotusap.proofs.Wide.{turned, fits-turned, as-written, at-lowest}
 use Rattle.hemotusap.proofs.host.minus_placed.Statement.{statement}

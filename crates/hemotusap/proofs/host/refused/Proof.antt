@@ -1,5 +1,5 @@
 -- `hemotusap::host::refused` meets its contract: by whether the refusal tells a place.
-use Rattle.answer.proofs.Kit.{_≡_, sym, ap, ap₂, _∙_, ℕ, _<_, _≤_, _^_, arith, needs}
+use Rattle.answer.proofs.Kit.{_≡_, sym, ap, ap₂, _∙_, ℕ, _<_, _^_, arith, needs}
 use mir.Facts.{toZ-ofZ}
 use Rattle.hemotusap.specs.Host.{minus, sizeOf}
 use Rattle.hemotusap.proofs.Wide.{turned, fits-turned, as-written}

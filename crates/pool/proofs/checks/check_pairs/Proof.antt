@@ -1,5 +1,5 @@
 -- `pool::checks::check_pairs` meets its contract: by the count of the pairs, then by each of them.
-use Rattle.answer.proofs.Kit.{_≡_, sym, ap, subst, _∙_, List, ℕ, _≤_, _<_, length, take, now, lt-leb, le-leb, needs}
+use Rattle.answer.proofs.Kit.{_≡_, ap, subst, _∙_, List, ℕ, _≤_, _<_, length, take, now, lt-leb, le-leb, needs}
 use Rattle.pool.specs.Pool.{tonesOf}
 use Rattle.pool.specs.Checks.{firstChecked, pairsChecked}
 use Rattle.pool.proofs.Pairs.{few-classes, few-intervals, first-used}

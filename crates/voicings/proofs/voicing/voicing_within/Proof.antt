@@ -1,5 +1,5 @@
 -- `voicings::voicing::voicing_within` meets its contract: the tests say what the call has to give, and `give` gives it.
-use Rattle.answer.proofs.Kit.{_≡_, sym, ap, ap₂, subst, _∙_, Bool, true, _&&_, List, _++_, ℕ, suc, _+_, _≤_, _<_, add-one, arith, leb, leb→le, length, take, replicate, take-all, now, needs}
+use Rattle.answer.proofs.Kit.{_≡_, sym, ap, ap₂, subst, _∙_, Bool, true, _&&_, List, _++_, ℕ, suc, _+_, _≤_, add-one, arith, leb, leb→le, length, replicate, take-all, now, needs}
 use Rattle.answer.specs.Replies.{Reply, text, Answered}
 use Rattle.answer.specs.Written.{Writes}
 use Rattle.answer.proofs.Rooms.{refused-by}

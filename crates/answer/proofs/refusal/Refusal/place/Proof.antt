@@ -1,5 +1,5 @@
 -- `answer::refusal::Refusal::place` meets its contract: by the refusal's case, and two of them hold a place.
-use Rattle.answer.proofs.Kit.{_≡_, ap, sym, _∙_, needs}
+use Rattle.answer.proofs.Kit.{ap, sym, needs}
 use Rattle.answer.specs.Refusals.{toldOf}
 use Rattle.answer.specs.declared.refusal.Refusal.{Refusal}
 use Rattle.answer.proofs.refusal.Refusal.place.Statement.{statement}
