@@ -4,6 +4,7 @@
 #include <stdlib.h>
 #include <string.h>
 
+#include "answers.h"
 #include "own_faults.h"
 
 enum { RARE = 97, MOST_ROOM = 1200, WHILE = 2000 };
@@ -20,8 +21,8 @@ static int64_t refusal_beside(const struct function *function, int64_t got)
 {
     const struct refusal *at = function->refusals;
     for (; at->number != NO_REFUSAL; at++)
-        if (refusal_answer(at) != got)
-            return refusal_answer(at);
+        if (refusal_answer(at, 0) != got)
+            return refusal_answer(at, 0);
     return got;
 }
 
