@@ -35,6 +35,16 @@ static int64_t other_refusal(const struct function *function, int64_t got)
     return other;
 }
 
+/* A refusal that tells a place, with another or with none. */
+static int64_t displaced(const char *fault, int64_t got)
+{
+    if (has(fault, "places_from_1"))
+        return got - 1;
+    if (has(fault, "always_place_0"))
+        return got / 256 * 256;
+    return has(fault, "no_place") ? got / 256 : got;
+}
+
 /* Long enough there for another thread to come by. */
 static void by_a_shared_buffer(uint8_t *out, size_t length)
 {
@@ -110,7 +120,7 @@ static int64_t call_wrongly(const char *fault, const struct call *call, uint8_t 
         return other_refusal(call->function, got);
     if (has(fault, "refuses_always"))
         return out == NULL ? other_refusal(call->function, 0) : -HEMOTUSAP_NO_ROOM;
-    return got;
+    return tells_place(got) ? displaced(fault, got) : got;
 }
 
 int64_t __wrap_call_library(const struct call *call, uint8_t *out)
