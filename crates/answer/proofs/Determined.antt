@@ -6,6 +6,7 @@
 --     F-decides      the contract of `F` does
 use Rattle.answer.proofs.Kit.{_≡_, sym, _∙_, List, ℕ, now}
 use Rattle.answer.proofs.refusal.Refusal.number.Reads as number
+use Rattle.answer.proofs.refusal.Refusal.place.Reads as place
 use Rattle.answer.proofs.output.give.Reads as give
 use Rattle.answer.proofs.word.put.Reads as put
 
@@ -26,6 +27,9 @@ DecidesWith {K} {A} {R} {S} Post left =
 
 pub number-decides : Decides number.Post
 number-decides κs a r r′ s s′ = determined
+
+pub place-decides : Decides place.Post
+place-decides κs a r r′ s s′ = determined
 
 pub give-decides : DecidesWith give.Post (λ κs s. now (s .1 .0))
 give-decides κs a r r′ s s′ = both

@@ -9,3 +9,4 @@ pub mod Arms
 pub mod Determined
 pub mod Texts
 pub mod Parts
+pub mod First

@@ -3,3 +3,4 @@ pub mod Replies
 pub mod Words
 pub mod Written
 pub mod Lines
+pub mod First

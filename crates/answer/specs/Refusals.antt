@@ -1,14 +1,30 @@
--- Paper 01, "Numbers given back": the number of each refusal.
+-- The number of each refusal and the place that some tell: paper 01, "Numbers given back", and paper 02, Q-1.
 use Prim.Native.Nat.{ℕ}
 use Rattle.answer.specs.declared.refusal.Refusal.{Refusal}
-use Rattle.answer.specs.declared.refusal.Refusal.the-variants.{NotASet, BadClass, TooManyPairs, BadPair, BadNote, BadMove, NoRoom}
+use Rattle.answer.specs.declared.refusal.Refusal.the-variants.{NotASet, BadClass, TooManyPairs, BadPairClass, BadPairInterval, BadNote, BadMove, NoRoom}
+use Rattle.answer.specs.declared.refusal.Place.{Place}
+use Rattle.answer.specs.declared.refusal.Place.the-variants as Place
 
--- a refusal's number
-abbrev pub numberOf : Refusal → ℕ
-numberOf NotASet = 1
-numberOf BadClass = 2
-numberOf TooManyPairs = 3
-numberOf BadPair = 4
-numberOf BadNote = 5
-numberOf BadMove = 6
-numberOf NoRoom = 7
+-- what a refusal tells
+pub record Told : Type 0 where
+  pub number : ℕ
+  pub place : Place
+
+-- a refusal that tells no place
+abbrev pub plain : ℕ → Told
+plain number = record { number = number; place = Place.None }
+
+-- and one that does
+abbrev pub placed : ℕ → ℕ → Told
+placed number place = record { number = number; place = Place.At place }
+
+-- a refusal's number and place: "4 becomes 41 (note class) or 42 (interval), each with the pair's position from 0"
+abbrev pub toldOf : Refusal → Told
+toldOf NotASet = plain 1
+toldOf BadClass = plain 2
+toldOf TooManyPairs = plain 3
+toldOf (BadPairClass place) = placed 41 place
+toldOf (BadPairInterval place) = placed 42 place
+toldOf BadNote = plain 5
+toldOf BadMove = plain 6
+toldOf NoRoom = plain 7

@@ -5,6 +5,8 @@ use mathlib.Core.List.{List, _++_}
 use Prim.Native.Nat.{ℕ, _≤_}
 use lib.Dec.{leb}
 use lib.ListN.{length, drop}
+use Rattle.answer.specs.declared.refusal.Checked.{Checked}
+use Rattle.answer.specs.declared.refusal.Checked.the-variants as Checked
 use Rattle.answer.specs.declared.refusal.Refusal.{Refusal}
 use Rattle.answer.specs.declared.refusal.Refusal.the-variants.{NoRoom}
 use Rattle.answer.specs.declared.output.Output.{Output}
@@ -14,6 +16,11 @@ use Rattle.answer.specs.declared.output.Output.the-variants.{Written, Re
 pub data Reply : Type 0 where
   refuse : Refusal → Reply
   text : List ℕ → Reply
+
+-- what a test refuses, or else this: "Checks run in this order; the first that applies answers"
+abbrev pub unlessRefused : Checked → Reply → Reply
+unlessRefused (Checked.Refused why) reply = refuse why
+unlessRefused Checked.Passed reply = reply
 
 -- the text is no longer than the room
 abbrev pub fits : List ℕ → List ℕ → Bool

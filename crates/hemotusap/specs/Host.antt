@@ -1,13 +1,16 @@
 -- What a host gets back: paper 01, "Ported, added, left behind" ("A success comes back there as the count of bytes written, the
--- quality number, or for a note 16 × letter + count + 6 (no accidental counts 0); a refusal comes back as minus its number").
+-- quality number, or for a note 16 × letter + count + 6 (no accidental counts 0); a refusal comes back as minus its number"), and
+-- paper 02, Q-1 ("The host gets minus (256 × number + place)").
 use mathlib.Core.Path.{_≡_}
 use mathlib.Core.Bool.{cond}
 use mathlib.Core.List.{List}
-use Prim.Native.Nat.{ℕ, _+_, _*_}
+use Prim.Native.Nat.{ℕ, _+_, _*_, _^_, min}
 use lib.Dec.{eqb, leb}
 use lib.IntN.{ℤ, pos, negℤ, _+ℤ_}
-use Rattle.answer.specs.Refusals.{numberOf}
+use Rattle.answer.specs.Refusals.{toldOf}
 use Rattle.answer.specs.Replies.{Reply, outputOf, roomAfter}
+use Rattle.answer.specs.declared.refusal.Place.{Place}
+use Rattle.answer.specs.declared.refusal.Place.the-variants as Place
 use Rattle.answer.specs.declared.refusal.Refusal.{Refusal}
 use Rattle.answer.specs.declared.output.Output.{Output}
 use Rattle.answer.specs.declared.output.Output.the-variants as Output
@@ -27,13 +30,18 @@ use Rattle.voicings.specs.declared.voicing.Lead.{Lead}
 use Rattle.voicings.specs.declared.voicing.Lead.the-variants as Lead
 use Rattle.voicings.specs.declared.voicing.Chord.{Chord}
 
--- minus a refusal's number, numbered as `number` says
-abbrev pub minus : (Refusal → ℕ) → Refusal → ℤ
-minus number why = negℤ (pos (number why))
+-- minus a size; where 64 bits hold no number so low, the lowest that they hold
+abbrev pub minus : ℕ → ℤ
+minus size = negℤ (pos (min size (2 ^ 63)))
 
--- a refusal, numbered as paper 01 has it
+-- what the host gets minus of: "256 × number + place"; of a refusal without a place "its number"
+abbrev pub sizeOf : ℕ → Place → ℕ
+sizeOf number Place.None = number
+sizeOf number (Place.At place) = 256 * number + place
+
+-- a refusal, with the number and the place that the papers give it
 abbrev pub refusalNumber : Refusal → ℤ
-refusalNumber why = minus numberOf why
+refusalNumber why = minus (sizeOf (toldOf why .number) (toldOf why .place))
 
 -- "the count of bytes written", or the refusal
 abbrev pub outputNumber : Output → ℤ

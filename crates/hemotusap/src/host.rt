@@ -1,6 +1,7 @@
-// The library's answers as the numbers that a host gets: at or above 0 for an answer, minus its number for a refusal. Besides, the
-// bass that a host gives.
+// The library's answers as the numbers that a host gets: at or above 0 for an answer, below 0 for a refusal. Besides, the bass that a
+// host gives.
 use answer::output::Output;
+use answer::refusal::Place;
 use answer::refusal::Refusal;
 use candidates::parts::Candidate;
 use candidates::parts::MaybeCandidate;
@@ -10,8 +11,9 @@ use notes::note::Note;
 use notes::note::NoteAnswer;
 use qualities::quality::QualityAnswer;
 ghost use mathlib.Core.Path.{_≡_};
+ghost use Prim.Native.Nat.{_+_, _*_};
 ghost use lib.IntN.{pos};
-ghost use Rattle.hemotusap.specs.Host.{refusalNumber, outputNumber, qualityNumber, noteNumber, noteAnswerNumber, bassFrom, bassNumber, partsNumber, candidateNumber};
+ghost use Rattle.hemotusap.specs.Host.{minus, refusalNumber, outputNumber, qualityNumber, noteNumber, noteAnswerNumber, bassFrom, bassNumber, partsNumber, candidateNumber};
 ghost use Rattle.hemotusap.specs.private.Wide.{Fits};
 
 // What the host gives for no bass.
@@ -20,10 +22,28 @@ const NO_BASS: u32 = 255;
 // What it gets for none.
 const BASS_OF_NONE: u32 = 15;
 
+// The size of the lowest number that 64 bits hold.
+const LOWEST_SIZE: u64 = 0x8000_0000_0000_0000;
+
+// Minus (256 × number + place), or the lowest number where that is not above it.
+fn minus_placed(number: u32, place: usize) -> i64
+    ensures { λ r. ⌜ r ≡ minus (256 * number + place) ⌝ }
+{
+    let below = 256 * (number as u64);
+    if place as u64 >= LOWEST_SIZE - below {
+        return i64::MIN;
+    }
+    0 - ((below + place as u64) as i64)
+}
+
 fn refused(why: Refusal) -> i64
     ensures { λ r. ⌜ r ≡ refusalNumber why ⌝ }
 {
-    0 - (why.number() as i64)
+    let number = why.number();
+    match why.place() {
+        Place::None => 0 - (number as i64),
+        Place::At(place) => minus_placed(number, place),
+    }
 }
 
 // The count of bytes written.

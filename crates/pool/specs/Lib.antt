@@ -1,3 +1,4 @@
 pub mod Pool
 pub mod Order
+pub mod Checks
 pub mod private

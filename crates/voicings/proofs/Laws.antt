@@ -1,17 +1,21 @@
 -- Theorem on the room of a voicing.
 --     voicing-room    two bass keys, sixteen guides, sixteen tensions and the lead: what the header says is enough
-use Rattle.answer.proofs.Kit.{Bool, true, false, cond, _&&_, List, ℕ, suc, _+_, _≤_, arith, T, leb, leb→le, length, length-append}
-use Rattle.answer.specs.Replies.{AtMost, refuse, text}
-use Rattle.answer.specs.declared.refusal.Refusal.the-variants.{BadClass, TooManyPairs, BadPair}
+use Rattle.answer.proofs.Kit.{Bool, true, false, cond, _&&_, List, ℕ, suc, _+_, _≤_, arith, leb, length, length-append}
+use Rattle.answer.specs.Replies.{AtMost, refuse, text, unlessRefused}
+use Rattle.answer.specs.declared.refusal.Checked.{Checked}
+use Rattle.answer.specs.declared.refusal.Checked.the-variants.{Passed, Refused}
+use Rattle.answer.specs.declared.refusal.Refusal.the-variants.{BadClass}
 use Rattle.intervals.specs.Bass.{isBass}
 use Rattle.pool.specs.declared.pool.Tone.{Tone}
 use Rattle.pool.specs.Pool.{tonesOf}
 use Rattle.pool.specs.Order.{sorted}
+use Rattle.pool.specs.Checks.{pairsChecked}
+use Rattle.pool.proofs.FirstBad.{Says, checked-says}
 use Rattle.pool.proofs.Sorted.{sorted-length}
 use Rattle.leads.specs.Lead.{leadOf, withoutLast}
 use Rattle.leads.proofs.Led.{fewer}
 use Rattle.voicings.specs.declared.voicing.Chord.{Chord}
-use Rattle.voicings.specs.Voicing.{wantedOf, aboveBass, above, voicingOf, arePairs, voicingReply}
+use Rattle.voicings.specs.Voicing.{wantedOf, aboveBass, above, voicingOf, voicingReply}
 use Rattle.voicings.proofs.Few.{few-guides, few-tensions}
 use Rattle.voicings.proofs.Replied.{few-bass}
 
@@ -30,12 +34,10 @@ module _ (lowest highest : ℕ) (chord : Chord) (classes intervals : List ℕ) w
 
   pub voicing-room : AtMost 35 (voicingReply lowest highest chord classes intervals)
   unfolding voicingReply
-  voicing-room =
-      by-tests (leb (chord .root) 11 && isBass (chord .bass)) (leb (length (tonesOf classes intervals)) 16) (leb→le _ _) (arePairs (tonesOf classes intervals))
+  voicing-room = by-tests (leb (chord .root) 11 && isBass (chord .bass)) (pairsChecked (tonesOf classes intervals)) (checked-says (tonesOf classes intervals))
     where
-      by-tests : (good few : Bool) → (T few → length (tonesOf classes intervals) ≤ 16) → (pairs : Bool)
-          → AtMost 35 (cond good (cond few (cond pairs (text (voicingOf lowest highest chord classes intervals)) (refuse BadPair)) (refuse TooManyPairs)) (refuse BadClass))
-      by-tests false few h pairs = tt
-      by-tests true false h pairs = tt
-      by-tests true true h false = tt
-      by-tests true true h true = few-keys (h tt)
+      by-tests : (good : Bool) (pairs : Checked) → Says (tonesOf classes intervals) pairs
+          → AtMost 35 (cond good (unlessRefused pairs (text (voicingOf lowest highest chord classes intervals))) (refuse BadClass))
+      by-tests false pairs h = tt
+      by-tests true (Refused why) h = tt
+      by-tests true Passed h = few-keys (h .0)

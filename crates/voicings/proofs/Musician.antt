@@ -6,13 +6,16 @@
 --     midi-keys      where the highest is at most 127, no key of a voicing is above 127
 --     product-keys   so it is with the product's range
 use Rattle.answer.proofs.Kit.{_≡_, sym, subst, _∙_, true, _&&_, List, [], _∷_, _++_, List·Memᴰ, List·Memᴰ·not-nil, List·Memᴰ·cases-cons, List·Memᴰ·append-cases, List·Memᴰ·eq-of-singleton, _⊎_, inl, inr, ⊎-elim, ℕ, suc, _+_, _%_, _≤_, _<_, mod-eq-of-lt, arith, leb, leb→le}
-use Rattle.answer.proofs.Tests.{left, right, is-true, said}
+use Rattle.answer.proofs.Tests.{said}
+use Rattle.answer.specs.declared.refusal.Checked.the-variants.{Passed}
 use Rattle.intervals.specs.Bass.{isBass}
 use Rattle.intervals.specs.declared.bass.Bass.{Bass}
 use Rattle.intervals.specs.declared.bass.Bass.the-variants as Bass
 use Rattle.pool.specs.declared.pool.Tone.{Tone}
 use Rattle.pool.specs.Pool.{tonesOf}
 use Rattle.pool.specs.Order.{sorted}
+use Rattle.pool.specs.Checks.{pairsChecked}
+use Rattle.pool.proofs.FirstBad.{Says, checked-says}
 use Rattle.pool.proofs.Among.{in-sorted}
 use Rattle.keys.specs.Range.{lowestKey, highestKey}
 use Rattle.keys.specs.Choice.{placed}
@@ -22,7 +25,7 @@ use Rattle.leads.specs.Lead.{withoutLast, leadOf}
 use Rattle.leads.proofs.Laws.{in-without, IsNoLead, lead-is}
 use Rattle.voicings.specs.declared.voicing.Chord.{Chord}
 use Rattle.voicings.specs.Guides.{guideKeys, tensionKeys}
-use Rattle.voicings.specs.Voicing.{wantedOf, bassKeys, aboveBass, above, voicingOf, arePairs}
+use Rattle.voicings.specs.Voicing.{wantedOf, bassKeys, aboveBass, above, voicingOf}
 
 -- a key of one of some tones, read back
 pub record Sounds (lowest highest : ℕ) (tones : List Tone) (key : ℕ) : Type 0 where
@@ -33,15 +36,8 @@ pub record Sounds (lowest highest : ℕ) (tones : List Tone) (key : ℕ) : Type 
   pub not-above : key ≤ highest
 
 -- the classes of a chord that is not refused
-is-class : (l : List Tone) → arePairs l ≡ true → (t : Tone) → List·Memᴰ t l → t .class ≤ 11
-unfolding arePairs
-is-class [] e t h = absurd (List·Memᴰ·not-nil h)
-is-class (x ∷ l) e t h =
-    let ok = said (leb (x .class) 11 && leb (x .interval) 22 && arePairs l) e in
-    ⊎-elim
-    (λ same. rw same (leb→le (x .class) 11 (left (leb (x .class) 11) _ (left (leb (x .class) 11 && leb (x .interval) 22) (arePairs l) ok))))
-    (λ more. is-class l (is-true _ (right (leb (x .class) 11 && leb (x .interval) 22) (arePairs l) ok)) t more)
-    (List·Memᴰ·cases-cons h)
+is-class : (l : List Tone) → pairsChecked l ≡ Passed → (t : Tone) → List·Memᴰ t l → t .class ≤ 11
+is-class l e t h = subst (Says l) e (checked-says l) .1 t h .0
 
 module _ (lowest highest : ℕ) (tones : List Tone) (classes-are : (t : Tone) → List·Memᴰ t tones → t .class ≤ 11) where
   -- a key below a limit that is not above the range sounds
@@ -77,7 +73,7 @@ bass-low root (Bass.Class bass) h e key m =
     let low = leb→le bass 11 (said (leb bass 11) e) in
     ⊎-elim (λ (is : key ≡ bass + 36). omega arith) (λ more. let is = List·Memᴰ·eq-of-singleton more in omega arith) (List·Memᴰ·cases-cons m)
 
-module _ (lowest highest : ℕ) (chord : Chord) (classes intervals : List ℕ) (pairs : arePairs (tonesOf classes intervals) ≡ true) where
+module _ (lowest highest : ℕ) (chord : Chord) (classes intervals : List ℕ) (pairs : pairsChecked (tonesOf classes intervals) ≡ Passed) where
   abbrev tones : List Tone
   tones = tonesOf classes intervals
 
@@ -124,6 +120,6 @@ module _ (lowest highest : ℕ) (chord : Chord) (classes intervals : List ℕ) (
       (λ m. ⊎-elim (λ s. omega (arith, s .not-above)) (λ no. omega (arith, no .is-0)) (above-sounds key m))
       (List·Memᴰ·append-cases (bassKeys (chord .root) (chord .bass)) h)
 
-pub product-keys : (chord : Chord) (classes intervals : List ℕ) → arePairs (tonesOf classes intervals) ≡ true → chord .root ≤ 11 → isBass (chord .bass) ≡ true
+pub product-keys : (chord : Chord) (classes intervals : List ℕ) → pairsChecked (tonesOf classes intervals) ≡ Passed → chord .root ≤ 11 → isBass (chord .bass) ≡ true
     → (key : ℕ) → List·Memᴰ key (voicingOf lowestKey highestKey chord classes intervals) → key ≤ 127
 product-keys chord classes intervals pairs = midi-keys lowestKey highestKey chord classes intervals pairs (omega arith)

@@ -1,11 +1,10 @@
 -- The voicing of a chord: paper 01, "Voicing (001)" and "Numbers given back".
-use mathlib.Core.Bool.{Bool, true, cond, _&&_}
+use mathlib.Core.Bool.{cond, _&&_}
 use mathlib.Core.List.{List, [], _∷_, _++_}
 use Prim.Native.Nat.{ℕ, suc, _+_}
 use lib.Dec.{leb}
-use lib.ListN.{length}
-use Rattle.answer.specs.Replies.{Reply, refuse, text}
-use Rattle.answer.specs.declared.refusal.Refusal.the-variants.{BadClass, TooManyPairs, BadPair}
+use Rattle.answer.specs.Replies.{Reply, refuse, text, unlessRefused}
+use Rattle.answer.specs.declared.refusal.Refusal.the-variants.{BadClass}
 use Rattle.intervals.specs.Bass.{isBass}
 use Rattle.intervals.specs.declared.bass.Bass.{Bass}
 use Rattle.intervals.specs.declared.bass.Bass.the-variants as Bass
@@ -15,6 +14,7 @@ use Rattle.voicings.specs.declared.voicing.Lead.the-variants as Lead
 use Rattle.voicings.specs.declared.voicing.Chord.{Chord}
 use Rattle.pool.specs.Pool.{tonesOf}
 use Rattle.pool.specs.Order.{sorted}
+use Rattle.pool.specs.Checks.{pairsChecked}
 use Rattle.leads.specs.Lead.{leadOf, withoutLast}
 use Rattle.voicings.specs.Guides.{guideKeys, tensionKeys}
 
@@ -42,16 +42,9 @@ unfoldable pub voicingOf : ℕ → ℕ → Chord → List ℕ → List ℕ → L
 voicingOf lowest highest chord classes intervals =
     bassKeys (chord .root) (chord .bass) ++ above lowest (suc highest) (wantedOf highest (chord .lead)) (sorted (tonesOf classes intervals))
 
--- each pair has a note class up to 11 and an interval up to 22
-unfoldable pub arePairs : List Tone → Bool
-arePairs [] = true
-arePairs (t ∷ more) = leb (t .class) 11 && leb (t .interval) 22 && arePairs more
-
--- what a call has to give: refusals 2, 3 and 4 in this order, or the voicing
+-- what a call has to give: refusal 2, those of the pairs, or the voicing
 unfoldable pub voicingReply : ℕ → ℕ → Chord → List ℕ → List ℕ → Reply
 voicingReply lowest highest chord classes intervals =
     cond (leb (chord .root) 11 && isBass (chord .bass))
-    (cond (leb (length (tonesOf classes intervals)) 16)
-    (cond (arePairs (tonesOf classes intervals)) (text (voicingOf lowest highest chord classes intervals)) (refuse BadPair))
-    (refuse TooManyPairs))
+    (unlessRefused (pairsChecked (tonesOf classes intervals)) (text (voicingOf lowest highest chord classes intervals)))
     (refuse BadClass)

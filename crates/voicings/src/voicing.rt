@@ -2,6 +2,7 @@
 use crate::guides::put_above;
 use answer::output::Output;
 use answer::output::give;
+use answer::refusal::Checked;
 use answer::refusal::Refusal;
 use intervals::bass::Bass;
 use intervals::bass::is_bass;
@@ -9,18 +10,16 @@ use intervals::set::LAST_CLASS;
 use keys::range::HIGHEST;
 use keys::range::LOWEST;
 use leads::lead::nearest_lead;
-use pool::pool::MOST;
-use pool::pool::used;
+use pool::checks::check_pairs;
 ghost use mathlib.Core.Path.{_≡_};
 ghost use mathlib.Core.Bool.{true};
 ghost use Prim.Native.Nat.{_≤_, _<_};
-ghost use lib.ListN.{length, take};
+ghost use lib.ListN.{length};
 ghost use Rattle.answer.specs.Replies.{Answered};
 ghost use Rattle.answer.specs.Written.{Writes};
 ghost use Rattle.intervals.specs.Bass.{isBass};
 ghost use Rattle.keys.specs.Range.{lowestKey, highestKey};
-ghost use Rattle.pool.specs.Pool.{tonesOf};
-ghost use Rattle.voicings.specs.Voicing.{wantedOf, bassKeys, arePairs, voicingReply};
+ghost use Rattle.voicings.specs.Voicing.{wantedOf, bassKeys, voicingReply};
 
 pub enum Lead {
     None,
@@ -34,10 +33,6 @@ pub struct Chord {
     pub lead: Lead,
 }
 
-const LAST_NOTE: u8 = 11;
-
-const LAST_INTERVAL: u8 = 22;
-
 // Two bass keys, sixteen guides, sixteen tensions and the lead.
 const ROOM: usize = 35;
 
@@ -48,23 +43,6 @@ fn wanted(lead: Lead, highest: u8) -> u8
         Lead::None => highest,
         Lead::Key(key) => key,
     }
-}
-
-fn are_pairs(classes: &[u8], intervals: &[u8], count: usize) -> bool
-    requires { ⌜ (count ≤ length (now classes)) × (count ≤ length (now intervals)) ⌝ }
-    ensures { λ r. ⌜ r ≡ arePairs (tonesOf (take count (now (classes .entry))) (take count (now (intervals .entry)))) ⌝ }
-{
-    let mut i = 0;
-    while i < count {
-        if classes[i] > LAST_NOTE {
-            return false;
-        }
-        if intervals[i] > LAST_INTERVAL {
-            return false;
-        }
-        i += 1;
-    }
-    true
 }
 
 // Writes the bass and the root, or the root alone, to the front of a buffer.
@@ -103,19 +81,17 @@ fn voicing_within(
     if !((root <= LAST_CLASS) & is_bass(bass)) {
         return Output::Refused(Refusal::BadClass);
     }
-    let count = used(classes, intervals);
-    if count > MOST {
-        return Output::Refused(Refusal::TooManyPairs);
+    match check_pairs(classes, intervals) {
+        Checked::Refused(why) => Output::Refused(why),
+        Checked::Passed => {
+            let limit = highest + 1;
+            let led = nearest_lead(classes, intervals, wanted(lead, highest), lowest, limit);
+            let mut buffer = [0u8; ROOM];
+            let place = put_bass(&mut buffer, root, bass);
+            let end = put_above(&mut buffer, place, led, lowest, limit);
+            give(&buffer[..end], out)
+        }
     }
-    if !are_pairs(classes, intervals, count) {
-        return Output::Refused(Refusal::BadPair);
-    }
-    let limit = highest + 1;
-    let led = nearest_lead(classes, intervals, wanted(lead, highest), lowest, limit);
-    let mut buffer = [0u8; ROOM];
-    let place = put_bass(&mut buffer, root, bass);
-    let end = put_above(&mut buffer, place, led, lowest, limit);
-    give(&buffer[..end], out)
 }
 
 // The voicing of a chord and its pairs in the range of keys that every voicing keeps to.

@@ -1,24 +1,34 @@
--- `hemotusap::host::refused` meets its contract.
-use Rattle.answer.proofs.Kit.{_≡_, ap, _∙_, ℕ, _<_, _^_, arith, ℤ, pos, negℤ, _-ℤ_, +ℤ-idl, needs}
-use mir.Syntax.{w64}
-use mir.Val.{SFits, toZ}
+-- `hemotusap::host::refused` meets its contract: by whether the refusal tells a place.
+use Rattle.answer.proofs.Kit.{_≡_, sym, ap, ap₂, _∙_, ℕ, _<_, _≤_, _^_, arith, needs}
 use mir.Facts.{toZ-ofZ}
-use Rattle.hemotusap.proofs.Wide.{held-pos, fits-neg}
+use Rattle.hemotusap.specs.Host.{minus, sizeOf}
+use Rattle.hemotusap.proofs.Wide.{turned, fits-turned, as-written}
 use Rattle.hemotusap.proofs.host.refused.Statement.{statement}
 use Rattle.hemotusap.proofs.host.refused.Tie as tie
 
-module _ (n : ℕ) (h : n < 2 ^ 32) where
-  small : n < 2 ^ 63
-  small = omega arith
+-- the number of one that tells no place
+module _ (c : tie.After-enum-told) where
+  abbrev number : ℕ
+  number = c .before .before .before .number .result
 
-  turned : pos 0 -ℤ toZ w64 n ≡ negℤ (pos n)
-  turned = ap (λ (z : ℤ). pos 0 -ℤ z) (held-pos n small) ∙ +ℤ-idl (negℤ (pos n))
+  narrow : number < 2 ^ 32
+  narrow = search needs
 
-  fits : SFits w64 (pos 0 -ℤ toZ w64 n)
-  fits = rw turned (fits-neg n small)
+  small : number < 2 ^ 63
+  small = omega (arith, narrow)
+
+  its-size : minus number ≡ minus (sizeOf number (c .before .before .place .result))
+  its-size = ap (λ p. minus (sizeOf number p)) (sym (c .enum-told .given .1))
 
 pub refused-spec : {M : Type 1} → statement M
 refused-spec = tie.close (tie.spec
-    (λ c κs. search needs) (λ c. search needs)
-    (λ c. fits (c .number .result) (search needs))
-    (λ c. toZ-ofZ (fits (c .number .result) (search needs)) ∙ turned (c .number .result) (search needs) ∙ ap (λ (n : ℕ). negℤ (pos n)) (c .number .ensures)))
+    (λ c κs. search needs) (λ c κs. search needs) (λ c. search needs) (λ c. search needs)
+    (λ c. fits-turned (number c) (small c))
+    (λ c. search needs) (λ c κs. search needs)
+    (λ c. toZ-ofZ (fits-turned (number c) (small c))
+    ∙ turned (number c) (small c)
+    ∙ sym (as-written (number c) (omega (arith, small c)))
+    ∙ its-size c
+    ∙ ap minus (ap₂ sizeOf (c .before .before .before .number .ensures) (c .before .before .place .ensures)))
+    (λ c. let p = c .before .before .before .before in
+    toZ-ofZ (search needs) ∙ c .minus-placed .ensures ∙ ap minus (ap₂ sizeOf (p .before .number .ensures) (sym (c .before .before .place2 .given .1) ∙ p .place .ensures))))

@@ -5,6 +5,7 @@ use Rattle.answer.specs.Written.{Writes}
 use Rattle.answer.proofs.Rooms.{refused-by}
 use Rattle.answer.proofs.Tests.{left, right, is-true, said, refused, admitted}
 use Rattle.answer.proofs.Writing.{also, same-text, counted, within}
+use Rattle.answer.specs.declared.refusal.Checked.the-variants.{Passed}
 use Rattle.intervals.specs.Bass.{isBass}
 use Rattle.pool.specs.declared.pool.Tone.{Tone}
 use Rattle.pool.specs.Pool.{tonesOf}
@@ -14,10 +15,11 @@ use Rattle.leads.specs.declared.lead.Led.{Led}
 use Rattle.leads.specs.Lead.{leadOf}
 use Rattle.leads.specs.private.Leaves.{ledOf}
 use Rattle.leads.proofs.Led.{led-is, led-left}
-use Rattle.voicings.specs.Voicing.{wantedOf, bassKeys, aboveBass, above, arePairs, voicingOf}
-use Rattle.pool.proofs.Pairs.{few-classes, few-intervals, first-used}
+use Rattle.voicings.specs.Voicing.{wantedOf, bassKeys, aboveBass, above, voicingOf}
+use Rattle.pool.specs.Checks.{pairsChecked}
+use Rattle.pool.proofs.FirstBad.{Says, checked-says}
 use Rattle.pool.proofs.Sorted.{sorted-length}
-use Rattle.voicings.proofs.Replied.{no-class, too-many, bad-pair, gives-voicing, few-bass}
+use Rattle.voicings.proofs.Replied.{no-class, pairs-refused, gives-voicing, few-bass}
 use Rattle.voicings.proofs.voicing.voicing_within.Statement.{statement}
 use Rattle.voicings.proofs.voicing.voicing_within.Tie as tie
 
@@ -43,49 +45,29 @@ module _ (c : tie.Else1) where
 
 returns-2 : tie.Need-returns-2
 returns-2 c =
-    let s = c .before .before .before .before .before .before .before in
-    refused-by _ _ _ (too-many _ _ (s .args .chord) _ _ (good (c .before .before)) (subst (λ (n : ℕ). 16 < n) (c .before .used .ensures) (c .if2 .taken)))
-
--- how many pairs there are
-module _ (c : tie.Else2) where
-  abbrev count : ℕ
-  count = c .before .used .result
-
-  abbrev classes : List ℕ
-  classes = now (c .before .before .before .before .before .before .before .args .classes)
-
-  abbrev intervals : List ℕ
-  intervals = now (c .before .before .before .before .before .before .before .args .intervals)
-
-  in-classes : count ≤ length classes
-  in-classes = rw (c .before .used .ensures) (few-classes classes intervals)
-
-  in-intervals : count ≤ length intervals
-  in-intervals = rw (c .before .used .ensures) (few-intervals classes intervals)
-
-  used-tones : tonesOf (take count classes) (take count intervals) ≡ tonesOf classes intervals
-  used-tones = rw (c .before .used .ensures) (first-used classes intervals)
-
-  at-most-16 : length (tonesOf classes intervals) ≤ 16
-  at-most-16 = subst (λ (n : ℕ). n ≤ 16) (c .before .used .ensures) (c .if2 .left)
-
-returns-3 : tie.Need-returns-3
-returns-3 c =
-    let s = c .before .before .before .before .before .before .before .before .before in
-    let e = c .before .before in
-    let bad = refused _ _ (c .before .are-pairs .ensures ∙ ap arePairs (used-tones e)) (c .if3 .taken) in
-    refused-by _ _ _ (bad-pair _ _ (s .args .chord) _ _ (good (e .before .before)) (at-most-16 e) bad)
+    let checked = c .before .before .before in
+    let s = checked .before .before .before .before .before .before in
+    refused-by _ _ _ (pairs-refused _ _ (s .args .chord) _ _ (good (checked .before)) _ (sym (checked .check-pairs .ensures) ∙ c .before .why .given .1))
 
 -- the lead, and the pool that it leaves
 module _ (c : tie.After-nearest-lead) where
-  abbrev pairs : tie.Else2
-  pairs = c .before .before .before .before
+  abbrev passed : tie.After-enum-told
+  passed = c .before .before
+
+  abbrev good-classes : tie.Else1
+  good-classes = passed .before .before .before
 
   abbrev start : tie.Start
-  start = pairs .before .before .before .before .before .before .before
+  start = good-classes .before .before .before .before .before
 
   abbrev tones : List Tone
-  tones = tonesOf (classes pairs) (intervals pairs)
+  tones = tonesOf (now (start .args .classes)) (now (start .args .intervals))
+
+  good-pairs : pairsChecked tones ≡ Passed
+  good-pairs = sym (passed .before .before .check-pairs .ensures) ∙ passed .enum-told .given .1
+
+  at-most-16 : length tones ≤ 16
+  at-most-16 = subst (Says tones) good-pairs (checked-says tones) .0
 
   abbrev lowest : ℕ
   lowest = start .args .lowest
@@ -99,10 +81,10 @@ module _ (c : tie.After-nearest-lead) where
   led : c .nearest-lead .result ≡ ledOf lowest limit wanted (sorted tones)
   led =
       c .nearest-lead .ensures
-      ∙ ap₂ (λ (w : ℕ) (l : List Tone). ledOf lowest limit w (sorted l)) (c .before .wanted .ensures) (take-all 16 tones (at-most-16 pairs))
+      ∙ ap₂ (λ (w : ℕ) (l : List Tone). ledOf lowest limit w (sorted l)) (c .before .wanted .ensures) (take-all 16 tones at-most-16)
 
   is-pool : IsPool (c .nearest-lead .result .left)
-  is-pool = subst (λ (x : Led). IsPool (x .left)) (sym led) (led-is lowest limit wanted (sorted tones) (omega (arith, sorted-length tones, at-most-16 pairs)))
+  is-pool = subst (λ (x : Led). IsPool (x .left)) (sym led) (led-is lowest limit wanted (sorted tones) (omega (arith, sorted-length tones, at-most-16)))
 
   above-is : aboveBass lowest limit (c .nearest-lead .result .key) (tonesIn (c .nearest-lead .result .left)) ≡ above lowest limit wanted (sorted tones)
   unfolding ledOf above
@@ -125,15 +107,13 @@ module _ (c : tie.After-put-above) where
       (ap (λ (l : List ℕ). bassKeys (start lead .args .chord .root) (start lead .args .chord .bass) ++ l) (above-is lead ∙ limit-is))
       (also (c .before .before .before .put-bass .ensures) (c .put-above .ensures))
 
-returns-4 : tie.Need-returns-4
-returns-4 c =
+returns-3 : tie.Need-returns-3
+returns-3 c =
     let g = c .before .before in
     let p = g .before .before .before .before in
-    let s = start (lead p) in
-    let a = lead p .before .before in
-    let e = pairs (lead p) in
-    let good-pairs = admitted _ _ (a .before .are-pairs .ensures ∙ ap arePairs (used-tones e)) (a .if3 .left) in
-    let reply = ap text (stands p .added) ∙ sym (gives-voicing (s .args .lowest) (s .args .highest) (s .args .chord) (now (s .args .classes)) (now (s .args .intervals)) (good (e .before .before)) (at-most-16 e) good-pairs) in
+    let l = lead p in
+    let s = start l in
+    let reply = ap text (stands p .added) ∙ sym (gives-voicing (s .args .lowest) (s .args .highest) (s .args .chord) (now (s .args .classes)) (now (s .args .intervals)) (good (good-classes l)) (good-pairs l)) in
     subst (λ (x : Reply). Answered x (now (s .args .out)) (g .give .result) (g .give .last .1 .0)) reply (g .give .ensures)
 
 pub voicing-within-spec : {M : Type 1} → statement M
@@ -141,11 +121,10 @@ voicing-within-spec = tie.close (tie.spec
     (λ c κs. search needs)
     returns
     (λ c κs. search needs)
-    returns-2
-    (λ c κs. (in-classes c, in-intervals c))
-    returns-3
+    (λ c. search needs)
+    (λ c. search needs)
     (λ c. search needs) (λ c κs. search needs) (λ c κs. search needs) (λ c. search needs)
-    (λ c κs. let e = pairs (c .before) .before .before in (is-root e, is-bass e, omega arith))
+    (λ c κs. let e = good-classes (c .before) in (is-root e, is-bass e, omega arith))
     (λ c. search needs)
     (λ c κs. let b = c .before .before in
     let a = b .before .before in
@@ -153,5 +132,5 @@ voicing-within-spec = tie.close (tie.spec
     (is-pool a, omega (arith, b .put-bass .ensures .place, few-bass (s .args .chord .root) (s .args .chord .bass), b .put-bass .kept .0)))
     (λ c. within (stands (c .before)))
     (λ c. counted (stands (c .before .before)))
-    (λ c κs. search needs) (λ c. search needs)
-    returns-4)
+    (λ c κs. search needs) returns-2 (λ c. search needs)
+    returns-3)

@@ -1,0 +1,127 @@
+-- What the check of some pairs says, in words that ask for no search.
+--     IsGood          a note class up to 11 and an interval up to 22
+--     FirstBad        at most sixteen pairs, those before a place good, and the one there bad in this way
+--     Says            what each outcome of the check says of the pairs
+--     checked-says    so it is with `pairsChecked`
+--     said-only       and what a check that says so comes to is that outcome: each is given exactly in its case
+use mathlib.Core.Option.{Option, none, some, Option·elim}
+use Rattle.answer.proofs.Kit.{_≡_, refl, sym, ap, subst, _∙_, Bool, true, false, not, cond, _&&_, List, [], _∷_, _++_, List·Memᴰ, ℕ, _≤_, _<_, T, leb, leb→le, length, lt-leb, le-leb, leb-false, not-false, not-true}
+use Rattle.answer.proofs.Tests.{left, right, said}
+use Rattle.answer.specs.First.{firstWhere}
+use Rattle.answer.proofs.First.{IsFirst, Finds, first-is, first-found, none-found}
+use Rattle.answer.specs.declared.refusal.Checked.{Checked}
+use Rattle.answer.specs.declared.refusal.Checked.the-variants.{Passed, Refused}
+use Rattle.answer.specs.declared.refusal.Refusal.{Refusal}
+use Rattle.answer.specs.declared.refusal.Refusal.the-variants.{NotASet, BadClass, TooManyPairs, BadPairClass, BadPairInterval, BadNote, BadMove, NoRoom}
+use Rattle.pool.specs.declared.pool.Tone.{Tone}
+use Rattle.pool.specs.Checks.{isBad, badPair, firstChecked, pairsChecked}
+
+abbrev pub IsGood : Tone → Type 0
+IsGood t = (t .class ≤ 11) × (t .interval ≤ 22)
+
+-- the note is looked at first
+abbrev pub ClassAbove : Tone → Type 0
+ClassAbove t = 11 < t .class
+
+abbrev pub IntervalAbove : Tone → Type 0
+IntervalAbove t = (t .class ≤ 11) × (22 < t .interval)
+
+pub record FirstBad (Bad : Tone → Type 0) (tones : List Tone) (place : ℕ) : Type 0 where
+  pub few : length tones ≤ 16
+  pub pair : Tone
+  pub before : List Tone
+  pub behind : List Tone
+  pub stands : tones ≡ before ++ (pair ∷ behind)
+  pub its-place : place ≡ length before
+  pub bad : Bad pair
+  pub earlier : (t : Tone) → List·Memᴰ t before → IsGood t
+
+-- every other refusal is for something else
+abbrev pub SaysWhy : List Tone → Refusal → Type 0
+SaysWhy tones TooManyPairs = 16 < length tones
+SaysWhy tones (BadPairClass place) = FirstBad ClassAbove tones place
+SaysWhy tones (BadPairInterval place) = FirstBad IntervalAbove tones place
+SaysWhy tones NotASet = ⊥
+SaysWhy tones BadClass = ⊥
+SaysWhy tones BadNote = ⊥
+SaysWhy tones BadMove = ⊥
+SaysWhy tones NoRoom = ⊥
+
+abbrev pub Says : List Tone → Checked → Type 0
+Says tones Passed = (length tones ≤ 16) × ((t : Tone) → List·Memᴰ t tones → IsGood t)
+Says tones (Refused why) = SaysWhy tones why
+
+good : (t : Tone) → isBad t ≡ false → IsGood t
+good t e =
+    let both = said (leb (t .class) 11 && leb (t .interval) 22) (not-false _ e) in
+    (leb→le _ _ (left (leb (t .class) 11) _ both), leb→le _ _ (right (leb (t .class) 11) _ both))
+
+not-bad : (t : Tone) → IsGood t → isBad t ≡ false
+not-bad t g = rw (le-leb _ _ (g .0), le-leb _ _ (g .1))
+
+module _ (tones : List Tone) (few : length tones ≤ 16) where
+  -- the first that the test finds, bad in one way
+  first-bad : (Bad : Tone → Type 0) (place : ℕ) (t : Tone) → IsFirst isBad tones place t → Bad t → FirstBad Bad tones place
+  first-bad Bad place t h bad = record {
+    few = few;
+    pair = t;
+    before = h .before;
+    behind = h .behind;
+    stands = h .stands;
+    its-place = h .its-place;
+    bad = bad;
+    earlier = λ y m. good y (h .earlier y m);
+  }
+
+  is-bad : (place : ℕ) (t : Tone) → IsFirst isBad tones place t → SaysWhy tones (badPair place t)
+  is-bad place t h = by-class (leb (t .class) 11) refl
+    where
+      by-class : (b : Bool) → leb (t .class) 11 ≡ b → SaysWhy tones (cond b (BadPairInterval place) (BadPairClass place))
+      by-class true e =
+          let wide : leb (t .interval) 22 ≡ false = sym (ap (λ (b : Bool). b && leb (t .interval) 22) e) ∙ not-true _ (h .found) in
+          first-bad IntervalAbove place t h (leb→le _ _ (said _ e), leb-false _ _ wide)
+      by-class false e = first-bad ClassAbove place t h (leb-false _ _ e)
+
+  first-says : Says tones (firstChecked tones)
+  unfolding firstChecked Option·elim
+  first-says = by-case (firstWhere isBad tones) (first-is isBad tones)
+    where
+      by-case : (o : Option (ℕ × Tone)) → Finds isBad tones o → Says tones (Option·elim o Passed (λ (f : ℕ × Tone). Refused (badPair (f .0) (f .1))))
+      by-case none h = (few, λ t m. good t (h t m))
+      by-case (some f) h = is-bad (f .0) (f .1) h
+
+pub checked-says : (tones : List Tone) → Says tones (pairsChecked tones)
+unfolding pairsChecked
+checked-says tones = by-count (leb (length tones) 16) refl
+  where
+    by-count : (b : Bool) → leb (length tones) 16 ≡ b → Says tones (cond b (firstChecked tones) (Refused TooManyPairs))
+    by-count true e = first-says tones (leb→le _ _ (said _ e))
+    by-count false e = leb-false _ _ e
+
+-- the first bad pair is the one that the test finds
+is-first : (Bad : Tone → Type 0) (tones : List Tone) (place : ℕ) → ((t : Tone) → Bad t → isBad t ≡ true) → (h : FirstBad Bad tones place) → firstWhere isBad tones ≡ some (place, h .pair)
+is-first Bad tones place bad h = first-found isBad tones place (h .pair) record {
+  before = h .before;
+  behind = h .behind;
+  stands = h .stands;
+  its-place = h .its-place;
+  found = bad (h .pair) (h .bad);
+  earlier = λ t m. not-bad t (h .earlier t m);
+}
+
+said-why : (tones : List Tone) (why : Refusal) → SaysWhy tones why → pairsChecked tones ≡ Refused why
+unfolding pairsChecked firstChecked Option·elim
+said-why tones TooManyPairs h = rw (lt-leb _ _ h)
+said-why tones (BadPairClass place) h = rw (le-leb _ _ (h .few), is-first ClassAbove tones place (λ t above. rw (lt-leb _ _ above)) h, lt-leb _ _ (h .bad))
+said-why tones (BadPairInterval place) h =
+    rw (le-leb _ _ (h .few), is-first IntervalAbove tones place (λ t above. rw (le-leb _ _ (above .0), lt-leb _ _ (above .1))) h, le-leb _ _ (h .bad .0))
+said-why tones NotASet h = absurd h
+said-why tones BadClass h = absurd h
+said-why tones BadNote h = absurd h
+said-why tones BadMove h = absurd h
+said-why tones NoRoom h = absurd h
+
+pub said-only : (tones : List Tone) (r : Checked) → Says tones r → pairsChecked tones ≡ r
+unfolding pairsChecked firstChecked Option·elim
+said-only tones Passed h = rw (le-leb _ _ (h .0), none-found isBad tones (λ t m. not-bad t (h .1 t m)))
+said-only tones (Refused why) h = said-why tones why h
