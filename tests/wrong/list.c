@@ -92,5 +92,6 @@ int main(void)
         list_swapped(&functions[function]);
     }
     printf("%s by_a_shared_buffer threads\n", functions[FUNCTION_suffix].name);
+    printf("%s places_from_1 threads\n", functions[FUNCTION_voicing].name);
     return 0;
 }
