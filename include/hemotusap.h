@@ -1,9 +1,10 @@
 /* Hemotusap: chords from plain numbers, for C and C++ (hemotusap.hpp wraps it in types for C++17).
  *
  * An answer at or above 0 is a success. Below 0 it is minus the number of a refusal, which has a
- * name below. Where several apply, the first in that order is given. A refused call alters no byte;
- * a successful one alters only the bytes that it counts. A range of length 0 may have any pointer,
- * NULL too. An output overlaps no other range.
+ * name below; of a refusal that tells a place, it is minus (256 * number + place). Where several
+ * apply, the first in that order is given. A refused call alters no byte; a successful one alters
+ * only the bytes that it counts. A range of length 0 may have any pointer, NULL too. An output
+ * overlaps no other range.
  *
  * Sets: bit k is pitch class k, counted in semitones from the root; 0..4095.
  * Accidentals: the count of sharps, -6..6; flats are negative, 0 is none.
@@ -20,14 +21,30 @@
 
 /* A call is refused exactly when one of these holds, in the order in which it is looked at. */
 enum hemotusap_refusal {
-    HEMOTUSAP_NOT_A_SET = 1,      /* a set above 4095, or, but for the quality, without class 0 */
-    HEMOTUSAP_BAD_CLASS = 2,      /* a root or bass class above 11, NO_BASS excepted */
-    HEMOTUSAP_TOO_MANY_PAIRS = 3, /* more than 16 pairs of note class and interval are used */
-    HEMOTUSAP_BAD_PAIR = 4,       /* a note class above 11 or an interval above 22 is used */
-    HEMOTUSAP_BAD_NOTE = 5,       /* a letter above 6, or an accidental outside -6..6 */
-    HEMOTUSAP_BAD_MOVE = 6,       /* semitones above 24, or a degree that is 0 or above 14 */
-    HEMOTUSAP_NO_ROOM = 7         /* the output is shorter than the whole answer */
+    HEMOTUSAP_NOT_A_SET = 1,          /* a set above 4095 or, but for quality, without class 0 */
+    HEMOTUSAP_BAD_CLASS = 2,          /* a root or bass class above 11, NO_BASS excepted */
+    HEMOTUSAP_TOO_MANY_PAIRS = 3,     /* more than 16 pairs of note class and interval are used */
+    HEMOTUSAP_BAD_PAIR_CLASS = 41,    /* a note class above 11 is used; its pair's place is told */
+    HEMOTUSAP_BAD_PAIR_INTERVAL = 42, /* an interval above 22 is used; its pair's place is told */
+    HEMOTUSAP_BAD_NOTE = 5,           /* a letter above 6, or an accidental outside -6..6 */
+    HEMOTUSAP_BAD_MOVE = 6,           /* semitones above 24, or a degree that is 0 or above 14 */
+    HEMOTUSAP_NO_ROOM = 7             /* the output is shorter than the whole answer */
 };
+
+/* The number of a refusal, and the place that it tells, counted from 0. Places of pairs are below
+ * 256, since at most 16 are used, so quotient and remainder by 256 tell the two. Of an answer at or
+ * above 0, which is none, the number is 0; where no place is told, the place is -1. */
+static inline int64_t hemotusap_refusal_number(int64_t answer)
+{
+    if (answer >= 0)
+        return 0;
+    return answer > -256 ? -answer : answer / -256;
+}
+
+static inline int64_t hemotusap_refusal_place(int64_t answer)
+{
+    return answer > -256 ? -1 : -(answer % 256);
+}
 
 /* What hemotusap_quality answers. */
 enum hemotusap_chord_quality {
@@ -205,7 +222,8 @@ int64_t hemotusap_transpose(uint32_t from_letter, int32_t from_accidental,
  * with no bass root + 36; then the guides from the lowest up, the tensions from the highest down,
  * and the lead: the key from 51 to 79 nearest to `lead` that a tone has, or to 79 with no lead; 0
  * where no tone may lead. Answers the bytes written, 2..35; no NUL follows them. Refuses:
- * BAD_CLASS, TOO_MANY_PAIRS, BAD_PAIR, NO_ROOM. */
+ * BAD_CLASS, TOO_MANY_PAIRS, BAD_PAIR_CLASS or BAD_PAIR_INTERVAL, NO_ROOM. Of bad pairs the first
+ * counts, and its place is told, 0..15; if it is bad in both, the class counts. */
 int64_t hemotusap_voicing(uint32_t root, uint32_t bass,
                           const uint8_t *classes, size_t class_count,
                           const uint8_t *intervals, size_t interval_count,

@@ -16,15 +16,33 @@
 
 namespace hemotusap {
 
-// The numbers are those of hemotusap.h, so that they stand in one place.
-enum class refusal : std::uint32_t {
-    not_a_set = HEMOTUSAP_NOT_A_SET,
-    bad_class = HEMOTUSAP_BAD_CLASS,
-    too_many_pairs = HEMOTUSAP_TOO_MANY_PAIRS,
-    bad_pair = HEMOTUSAP_BAD_PAIR,
-    bad_note = HEMOTUSAP_BAD_NOTE,
-    bad_move = HEMOTUSAP_BAD_MOVE,
-    no_room = HEMOTUSAP_NO_ROOM
+// Why a call is refused, and at which place, where one is told. It is compared and switched on by
+// its reason alone: a bad_pair_class equals refusal::bad_pair_class, whatever its place.
+class refusal {
+public:
+    // The numbers are those of hemotusap.h, so that they stand in one place.
+    enum reason : std::uint32_t {
+        not_a_set = HEMOTUSAP_NOT_A_SET,
+        bad_class = HEMOTUSAP_BAD_CLASS,
+        too_many_pairs = HEMOTUSAP_TOO_MANY_PAIRS,
+        bad_pair_class = HEMOTUSAP_BAD_PAIR_CLASS,
+        bad_pair_interval = HEMOTUSAP_BAD_PAIR_INTERVAL,
+        bad_note = HEMOTUSAP_BAD_NOTE,
+        bad_move = HEMOTUSAP_BAD_MOVE,
+        no_room = HEMOTUSAP_NO_ROOM
+    };
+
+    constexpr refusal() noexcept = default;
+    constexpr refusal(reason why, std::optional<std::size_t> place = std::nullopt) noexcept
+        : reason_(why), place_(place) {}
+
+    constexpr operator reason() const noexcept { return reason_; }
+    constexpr std::uint32_t number() const noexcept { return reason_; }
+    constexpr std::optional<std::size_t> place() const noexcept { return place_; } // from 0
+
+private:
+    reason reason_{};
+    std::optional<std::size_t> place_;
 };
 
 enum class chord_quality : std::uint32_t {
@@ -149,6 +167,7 @@ class [[nodiscard]] result {
 public:
     constexpr result(T value) noexcept : value_(value) {}
     constexpr result(refusal why) noexcept : error_(why) {}
+    constexpr result(refusal::reason why) noexcept : error_(why) {} // no T of its number
 
     constexpr bool has_value() const noexcept { return error_ == refusal{}; }
     constexpr explicit operator bool() const noexcept { return has_value(); }
@@ -202,7 +221,8 @@ constexpr std::string_view name(refusal why) noexcept {
     case refusal::not_a_set: return "not a set";
     case refusal::bad_class: return "bad class";
     case refusal::too_many_pairs: return "too many pairs";
-    case refusal::bad_pair: return "bad pair";
+    case refusal::bad_pair_class: return "bad class of a pair";
+    case refusal::bad_pair_interval: return "bad interval of a pair";
     case refusal::bad_note: return "bad note";
     case refusal::bad_move: return "bad move";
     case refusal::no_room: return "no room";
@@ -223,11 +243,20 @@ inline const std::uint8_t *bytes(const interval *read) noexcept {
     return reinterpret_cast<const std::uint8_t *>(read);
 }
 
+// What a number below 0 tells.
+inline refusal refused(std::int64_t number) noexcept {
+    const auto why = static_cast<refusal::reason>(hemotusap_refusal_number(number));
+    const std::int64_t place = hemotusap_refusal_place(number);
+    if (place < 0)
+        return why;
+    return refusal(why, static_cast<std::size_t>(place));
+}
+
 // The answer as a value of T, made of the boundary's number by `make`, or the refusal.
 template <class T, class Make>
 constexpr result<T> answered(std::int64_t number, Make make) noexcept {
     if (number < 0)
-        return static_cast<refusal>(-number);
+        return refused(number);
     return make(static_cast<std::size_t>(number));
 }
 

@@ -5,14 +5,35 @@
 #include <inttypes.h>
 #include <stdio.h>
 
+static const char *why(int64_t answer)
+{
+    switch (hemotusap_refusal_number(answer)) {
+    case HEMOTUSAP_NOT_A_SET:
+        return "not a set";
+    case HEMOTUSAP_BAD_PAIR_CLASS:
+        return "bad class of a pair";
+    default:
+        return "for another reason";
+    }
+}
+
+/* Some refusals tell at which place. */
+static void show_refusal(const char *what, int64_t answer)
+{
+    int64_t place = hemotusap_refusal_place(answer);
+    printf("%s: refused, %s", what, why(answer));
+    if (place >= 0)
+        printf(", at %" PRId64, place);
+    printf("\n");
+}
+
 /* The text that an answer counts, or why there is none. */
 static void show(const char *what, int64_t answer, const uint8_t *text)
 {
-    const char *why = answer == -HEMOTUSAP_NOT_A_SET ? "not a set" : "for another reason";
     if (answer >= 0)
         printf("%s: %.*s\n", what, (int)answer, (const char *)text);
     else
-        printf("%s: refused, %s\n", what, why);
+        show_refusal(what, answer);
 }
 
 static void symbols(void)
@@ -87,6 +108,17 @@ static void show_voicing(const char *what, uint32_t bass, uint32_t lead)
     printf("\n");
 }
 
+/* The last is no class, which is told with its place. */
+static void bad_pair(void)
+{
+    static const uint8_t classes[] = {0, 4, 12}, intervals[] = {0, 4, 8};
+    uint8_t keys[HEMOTUSAP_VOICING_ROOM];
+    show("classes 0 4 12",
+         hemotusap_voicing(0, HEMOTUSAP_NO_BASS, classes, sizeof classes, intervals,
+                           sizeof intervals, HEMOTUSAP_NO_LEAD, keys, sizeof keys),
+         keys);
+}
+
 int main(void)
 {
     symbols();
@@ -96,4 +128,5 @@ int main(void)
     notes();
     show_voicing("CMa7", HEMOTUSAP_NO_BASS, HEMOTUSAP_NO_LEAD);
     show_voicing("CMa7/E, lead 71", 4, 71);
+    bad_pair();
 }

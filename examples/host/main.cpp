@@ -29,6 +29,13 @@ void print(const Numbers &numbers) {
         std::printf(" %u", number);
 }
 
+// Some refusals tell at which place.
+void print(hemotusap::refusal why) {
+    print(hemotusap::name(why));
+    if (const auto place = why.place())
+        std::printf(", at %zu", *place);
+}
+
 // An answer or a refusal: the value, or why there is none.
 template <class T>
 void show(const char *what, hemotusap::result<T> answer) {
@@ -36,7 +43,7 @@ void show(const char *what, hemotusap::result<T> answer) {
     if (answer)
         print(*answer);
     else
-        print(hemotusap::name(answer.error()));
+        print(answer.error());
     std::printf("\n");
 }
 
@@ -83,6 +90,9 @@ void voicings() {
     const auto none = std::nullopt;
     show("CMa7", hemotusap::voicing(0, none, classes, intervals, none, keys)); // 36 52 59 79
     show("CMa7/E, lead 71", hemotusap::voicing(0, 4, classes, intervals, 71, keys));
+
+    const std::array<std::uint8_t, 3> wrong{0, 4, 12}; // the last is no class
+    show("classes 0 4 12", hemotusap::voicing(0, none, wrong, intervals, none, keys));
 }
 
 } // namespace

@@ -31,9 +31,9 @@
 #define EVEN(low, high) {low, high, 2, 0}
 #define NOTE {0, 16 * 6 + 12, 16, 12}
 #define CHORD {0, 65536 * 15 + 4096 * 11 + 4095, 65536, 4096 * 11 + 4095}
-#define REFUSAL(name) {HEMOTUSAP_##name, 0}
-#define PLACED(name, places) {HEMOTUSAP_##name, places}
-#define NEVER {NO_REFUSAL, 0}
+#define REFUSAL(name) {HEMOTUSAP_##name, NO_INPUT}
+#define PLACED(name, at) {HEMOTUSAP_##name, at}
+#define NEVER {NO_REFUSAL, NO_INPUT}
 #define LIST(...) {__VA_ARGS__}
 
 const struct function functions[FUNCTIONS] = {
@@ -48,40 +48,6 @@ bool function_writes(const struct function *function)
         if (at->kind == AN_OUTPUT)
             return true;
     return false;
-}
-
-int64_t refusal_answer(const struct refusal *refusal)
-{
-    return refusal->places == 0 ? -refusal->number : -256 * refusal->number;
-}
-
-unsigned refusal_at(const struct function *function, int64_t answer)
-{
-    unsigned at = 0;
-    for (; function->refusals[at].number != NO_REFUSAL; at++) {
-        const struct refusal *refusal = &function->refusals[at];
-        int64_t first = refusal_answer(refusal);
-        if (answer == first || (answer < first && answer > first - refusal->places))
-            return at;
-    }
-    return MOST_REFUSALS;
-}
-
-bool may_answer(const struct call *call, int64_t answer)
-{
-    const struct function *function = call->function;
-    const struct answers *answers = &function->answers;
-    bool writes = function_writes(function);
-    if (answer < 0)
-        return refusal_at(function, answer) != MOST_REFUSALS &&
-               (answer != -HEMOTUSAP_NO_ROOM || call->room < answers->high);
-    return answer >= answers->low && answer <= answers->high &&
-           answer % answers->unit <= answers->most_left && (!writes || answer <= call->room);
-}
-
-size_t written_by(const struct call *call, int64_t answer)
-{
-    return answer < 0 || !function_writes(call->function) ? 0 : (size_t)answer;
 }
 
 int64_t call_library(const struct call *call, uint8_t *out)

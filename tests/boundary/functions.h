@@ -7,7 +7,7 @@
 #include "call.h"
 #include "hemotusap.h"
 
-enum { MOST_PARAMETERS = 12, MOST_INPUTS = 2, MOST_REFUSALS = 8, NO_REFUSAL = 0 };
+enum { MOST_PARAMETERS = 12, MOST_INPUTS = 2, MOST_REFUSALS = 8, NO_REFUSAL = 0, NO_INPUT = -1 };
 
 /* Its type in C. */
 enum kind { NO_PARAMETER, A_NUMBER, A_SIGNED_NUMBER, AN_INPUT, AN_OUTPUT };
@@ -27,7 +27,7 @@ struct answers {
 /* A host gets minus the number, or of one that tells a place minus (256 * number + place). */
 struct refusal {
     int64_t number;
-    int64_t places; /* 0: it tells none */
+    int input; /* in which it tells the place of a bad byte, or NO_INPUT */
 };
 
 /* Makes a call on the library: its inputs are lent ones, and so is the output, of its room. */
@@ -62,18 +62,6 @@ extern const struct function functions[FUNCTIONS];
                           .room = NO_OUTPUT})
 
 bool function_writes(const struct function *function);
-
-/* What a host gets of a refusal, with the first of its places. */
-int64_t refusal_answer(const struct refusal *refusal);
-
-/* Which of the function's refusals a negative answer is; MOST_REFUSALS: none. */
-unsigned refusal_at(const struct function *function, int64_t answer);
-
-/* Whether the header has this answer for such a call. */
-bool may_answer(const struct call *call, int64_t answer);
-
-/* The bytes of the output that an answer says are written. */
-size_t written_by(const struct call *call, int64_t answer);
 
 /* Makes the call. The drivers have no other way to the library, so that calls that are wrong on
    purpose can be put in its place. */

@@ -29,10 +29,11 @@ static enum mode mode_of(const char *word)
 static int run_suite(enum mode mode, const struct suite *suite, uint64_t seed, uint64_t count)
 {
     struct run run = {.suite = suite->name, .mode = mode, .seed = seed, .count = count};
-    if (suite->asked != NULL)
-        suite->asked(&run);
+    /* First, since a wrong refusal then shows at once. */
     if (mode == CHECKING)
         suite->stated(&run);
+    if (suite->asked != NULL)
+        suite->asked(&run);
     return run_end(&run, suite->asked != NULL);
 }
 

@@ -2,12 +2,12 @@
 
 #include <string.h>
 
-#include "draw.h"
+#include "bad_pairs.h"
 #include "length.h"
 #include "numbers_above.h"
 #include "voicings.h"
 
-enum { BYTES = 256, LONGEST = 65552 };
+enum { LONGEST = 65552 };
 
 static const struct pool good = {{0, 4, 7}, {0, 4, 8}, 3, 3};
 
@@ -38,14 +38,16 @@ static void refuse_bass(struct run *run, int64_t bass)
     refuse_classes(run, 11, bass);
 }
 
-/* Bytes that are all good, and all bad: neither is looked at. */
+/* Bytes that are all good, and bad in the one range, in the other or in both: none is looked at. */
 static void many_pairs(struct run *run, size_t classes, size_t intervals)
 {
-    static uint8_t bytes[LONGEST];
-    static const int fills[] = {0, 11, 12, 255};
+    static uint8_t bytes[2][LONGEST];
+    static const int fills[][2] = {{0, 0}, {11, 22}, {12, 0}, {0, 23}, {255, 255}};
     for (unsigned at = 0; at < LENGTH(fills); at++) {
-        memset(bytes, fills[at], sizeof bytes);
-        const struct chord chord = {{0, NO_BASS, NO_LEAD}, {{bytes, classes}, {bytes, intervals}}};
+        memset(bytes[0], fills[at][0], classes);
+        memset(bytes[1], fills[at][1], intervals);
+        const struct chord chord = {{0, NO_BASS, NO_LEAD},
+                                    {{bytes[0], classes}, {bytes[1], intervals}}};
         expect_no_voicing(run, &chord, HEMOTUSAP_TOO_MANY_PAIRS);
     }
 }
@@ -57,32 +59,6 @@ static void too_many_pairs(struct run *run)
     for (unsigned a = 0; a < LENGTH(lengths); a++)
         for (unsigned b = 0; b < LENGTH(lengths); b++)
             many_pairs(run, lengths[a], lengths[b]);
-}
-
-/* Every byte that is bad in this place, in a pool that is good but for it; by turns in no room, in
-   too little and in enough. */
-static void bad_bytes(struct run *run, const struct pool *pool, uint8_t *place, unsigned least)
-{
-    static const size_t rooms[] = {0, 1, MOST_KEYS};
-    const struct chord chord = chord_of(0, NO_BASS, NO_LEAD, pool);
-    uint8_t good_byte = *place;
-    for (unsigned byte = least; byte < BYTES; byte++) {
-        *place = (uint8_t)byte;
-        expect_no_voicing_in(run, &chord, HEMOTUSAP_BAD_PAIR, rooms[byte % LENGTH(rooms)]);
-    }
-    *place = good_byte;
-}
-
-static void bad_pairs(struct run *run)
-{
-    for (size_t count = 1; count <= MOST_PAIRS; count++) {
-        uint64_t state = draws_of(run->seed, count);
-        struct pool pool = drawn_pool_of(&state, count, count);
-        for (size_t at = 0; at < count; at++) {
-            bad_bytes(run, &pool, &pool.classes[at], CLASSES);
-            bad_bytes(run, &pool, &pool.intervals[at], INTERVALS);
-        }
-    }
 }
 
 void refused_voicings(struct run *run)

@@ -36,6 +36,15 @@ static_assert(result<int>(refusal::no_room).error() == refusal::no_room);
 static_assert(!result<int>(refusal::no_room) && *result<int>(refusal::no_room) == 0);
 static_assert(result<int>(refusal::no_room).value_or(5) == 5 && result<int>(4).value_or(5) == 4);
 
+constexpr refusal third(refusal::bad_pair_class, 2);
+static_assert(std::is_trivially_copyable_v<refusal>);
+static_assert(third == refusal::bad_pair_class && third != refusal::bad_pair_interval);
+static_assert(third.number() == 41 && third.place() == 2u);
+static_assert(result<int>(third).error().place() == 2u && !result<int>(third));
+static_assert(refusal(refusal::no_room).number() == 7 && !refusal(refusal::no_room).place());
+static_assert(refusal{}.number() == 0 && !refusal{}.place());
+static_assert(refusal{} != refusal::not_a_set && result<int>(4).error() == refusal{});
+
 int failures = 0;
 
 void expect(bool holds, const char *what) {
@@ -51,14 +60,12 @@ void expect(bool holds, const char *what) {
 void refusals() {
     const std::array<std::uint8_t, 17> zeros{};
     const std::array<interval, 17> unisons{};
-    const std::uint8_t bad[] = {12};
     std::uint8_t keys[voicing_room];
     char text[suffix_room];
     EXPECT(quality(4096).error() == refusal::not_a_set);
     EXPECT(suffix(2, text).error() == refusal::not_a_set);
     EXPECT(tones(12, 1, text).error() == refusal::bad_class);
     EXPECT(voicing(0, {}, zeros, unisons, {}, keys).error() == refusal::too_many_pairs);
-    EXPECT(voicing(0, {}, bad, unisons, {}, keys).error() == refusal::bad_pair);
     EXPECT(note_text({letter{7}, 0}, text).error() == refusal::bad_note);
     EXPECT(transpose({}, {}, {letter::C, 7}).error() == refusal::bad_note);
     EXPECT(get_note({}, 0, 15).error() == refusal::bad_move);
@@ -68,6 +75,44 @@ void refusals() {
     EXPECT(harmony(12, {}, 1, text).error() == refusal::bad_class);
     EXPECT(harmony(0, {}, 145, text).error() == refusal::no_room);
     EXPECT(name(refusal::no_room) == "no room" && name(refusal{}) == "none");
+    EXPECT(!suffix(2, text).error().place() && suffix(2, text).error().number() == 1);
+}
+
+// As a host would switch on it.
+std::string_view bad_part(refusal why) {
+    switch (why) {
+    case refusal::bad_pair_class: return "class";
+    case refusal::bad_pair_interval: return "interval";
+    default: return "neither";
+    }
+}
+
+// Of two bad pairs the first, and of each the part that is bad.
+void places() {
+    const std::uint8_t classes[] = {0, 4, 7, 12};
+    const interval intervals[] = {interval::unison, interval{23}, interval::unison, interval{255}};
+    std::uint8_t keys[voicing_room];
+    const refusal second = voicing(0, {}, classes, intervals, {}, keys).error();
+    const refusal first = voicing(0, {}, bytes(classes + 3, 1), intervals, {}, keys).error();
+    EXPECT(second == refusal::bad_pair_interval && second.number() == 42 && second.place() == 1u);
+    EXPECT(first == refusal::bad_pair_class && first.number() == 41 && first.place() == 0u);
+    EXPECT(bad_part(second) == "interval" && bad_part(first) == "class");
+    EXPECT(name(second) == "bad interval of a pair" && name(first) == "bad class of a pair");
+    EXPECT(bad_part(voicing(12, {}, classes, intervals, {}, keys).error()) == "neither");
+}
+
+// What hemotusap.h reads off an answer, of whatever kind.
+void parts_of_answers() {
+    const struct {
+        std::int64_t answer, number, place;
+    } rows[] = {{INT64_MAX, 0, -1}, {1024, 0, -1}, {0, 0, -1}, {-1, 1, -1}, {-7, 7, -1},
+                {-255, 255, -1}, {-256, 1, 0}, {-257, 1, 1}, {-10496, 41, 0}, {-10511, 41, 15},
+                {-10751, 41, 255}, {-10752, 42, 0}, {-10767, 42, 15},
+                {INT64_MIN + 1, (INT64_C(1) << 55) - 1, 255}, {INT64_MIN, INT64_C(1) << 55, 0}};
+    for (const auto &row : rows) {
+        EXPECT(hemotusap_refusal_number(row.answer) == row.number);
+        EXPECT(hemotusap_refusal_place(row.answer) == row.place);
+    }
 }
 
 // Of what is absent or out of place, and of nothing at all.
@@ -107,6 +152,8 @@ void elements() {
 
 int main() {
     refusals();
+    places();
+    parts_of_answers();
     edges();
     elements();
     return failures == 0 ? 0 : 1;

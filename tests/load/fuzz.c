@@ -4,6 +4,7 @@
 #include <stdlib.h>
 #include <string.h>
 
+#include "answers.h"
 #include "draw.h"
 #include "lent_call.h"
 #include "made.h"
@@ -39,14 +40,13 @@ __attribute__((section("__libfuzzer_extra_counters"))) static volatile uint8_t
 
 static void count(const struct made *made, const struct outcome *outcome)
 {
-    const struct function *function = made->call.function;
-    ptrdiff_t at_row = function - functions;
+    ptrdiff_t at_row = made->call.function - functions;
     uint32_t hash = (uint32_t)outcome->answer;
     for (size_t at = 0; at < outcome->written; at++)
         hash = hash * 31 + outcome->bytes[at];
     came[at_row][hash % COUNTERS] = 1;
     if (outcome->answer < 0)
-        refused[at_row][refusal_at(function, outcome->answer)]++;
+        refused[at_row][refusal_at(&made->call, outcome->answer)]++;
     else
         answered[at_row]++;
 }

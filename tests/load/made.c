@@ -48,14 +48,17 @@ static size_t take_suffix(struct source *from, uint8_t *bytes)
     return (size_t)length;
 }
 
+/* Of 16 inputs 13 are good; one is of any bytes, and two have such a one in 5 or in 16. */
 static size_t take_bytes(struct source *from, int64_t highest, uint8_t *bytes)
 {
-    uint32_t kind = take(from, 1);
+    static const unsigned apart[16] = {1, 5, 16};
+    uint32_t kind = take(from, 1), goodness = take(from, 1);
     size_t length = kind % 8 == 0 ? take(from, 2) % (MOST_INPUT + 1) : kind / 8 % 18;
-    bool good = take(from, 1) % 16 != 0;
+    unsigned between = apart[goodness % 16], from_first = goodness / 16;
     for (size_t at = 0; at < length; at++) {
         uint32_t byte = take(from, 1);
-        bytes[at] = (uint8_t)(good ? byte % (highest + 1) : byte);
+        bool any = between != 0 && (at + from_first) % between == 0;
+        bytes[at] = (uint8_t)(any ? byte : byte % (highest + 1));
     }
     return length;
 }

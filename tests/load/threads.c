@@ -2,12 +2,14 @@
    got before. */
 #define _POSIX_C_SOURCE 200809L /* barriers */
 
+#include <inttypes.h>
 #include <pthread.h>
 #include <stdatomic.h>
 #include <stdlib.h>
 #include <string.h>
 #include <time.h>
 
+#include "answers.h"
 #include "made.h"
 #include "run.h"
 
@@ -77,6 +79,15 @@ static void run_threads(void)
             fail("thread %u does not end", at);
 }
 
+/* What the header has not would be the same from all threads. */
+static void check_alone(unsigned function)
+{
+    for (unsigned at = 0; at < EACH; at++)
+        if (!may_answer(&calls[function][at].call, alone[function][at].answer))
+            fail("%s answered %" PRId64 ", which the header has not", functions[function].name,
+                 alone[function][at].answer);
+}
+
 static void call_alone(unsigned function)
 {
     for (unsigned at = 0; at < EACH; at++)
@@ -86,6 +97,7 @@ static void call_alone(unsigned function)
         make(&calls[function][at], &alone[function][at]);
     clock_t slow = (clock_t)EACH * SLOW_MICROSECONDS * CLOCKS_PER_SEC / 1000000;
     rounds[function] = clock() - before < slow ? ROUNDS : SLOW_ROUNDS;
+    check_alone(function);
 }
 
 int main(void)

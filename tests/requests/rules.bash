@@ -1,4 +1,4 @@
-# The rules' refusals but for that of the room, each function's in their order.
+# The rules' refusals but for that of the room, each function's in their order. One that tells a place is 256 * its number + that.
 
 # Unless this holds, the refusal of this number applies, if none before it did.
 unless() { # NUMBER ARITHMETIC
@@ -9,17 +9,27 @@ unless_note() { # LETTER ACCIDENTAL
   unless 5 "$1 <= 6 && -6 <= $2 && $2 <= 6"
 }
 
-# As many pairs are used as the shorter list has.
-unless_pairs() { # CLASSES INTERVALS
-  local classes intervals used i
+# Fills `classes` and `intervals` with the pairs that are used, as many as the shorter list has.
+use_pairs() { # CLASSES INTERVALS
+  local used
   numbers_in "$1" && classes=("${numbers[@]}")
   numbers_in "$2" && intervals=("${numbers[@]}")
   used=$((${#classes[@]} < ${#intervals[@]} ? ${#classes[@]} : ${#intervals[@]}))
-  unless 3 "$used <= 16"
-  for ((i = 0; i < used; i++)); do unless 4 "${classes[i]} <= 11 && ${intervals[i]} <= 22"; done
+  classes=("${classes[@]:0:used}") intervals=("${intervals[@]:0:used}")
 }
 
-# Sets `refused` to the number of the first that applies, or to 0.
+# Of a pair the class is looked at before the interval.
+unless_pairs() { # CLASSES INTERVALS
+  local classes intervals i
+  use_pairs "$@"
+  unless 3 "${#classes[@]} <= 16"
+  for i in "${!classes[@]}"; do
+    unless $((256 * 41 + i)) "${classes[i]} <= 11"
+    unless $((256 * 42 + i)) "${intervals[i]} <= 22"
+  done
+}
+
+# Sets `refused` to the first that applies, or to 0.
 refuse() { # NAME ARGUMENTS...
   refused=0
   case $1 in

@@ -4,6 +4,7 @@
 #include <stdlib.h>
 #include <string.h>
 
+#include "answers.h"
 #include "own_faults.h"
 
 enum { RARE = 97, MOST_ROOM = 1200, WHILE = 2000 };
@@ -20,8 +21,8 @@ static int64_t refusal_beside(const struct function *function, int64_t got)
 {
     const struct refusal *at = function->refusals;
     for (; at->number != NO_REFUSAL; at++)
-        if (refusal_answer(at) != got)
-            return refusal_answer(at);
+        if (refusal_answer(at, 0) != got)
+            return refusal_answer(at, 0);
     return got;
 }
 
@@ -32,6 +33,16 @@ static int64_t other_refusal(const struct function *function, int64_t got)
     for (unsigned at = 0; other == got && at < FUNCTIONS; at++)
         other = refusal_beside(&functions[at], got);
     return other;
+}
+
+/* A refusal that tells a place, with another or with none. */
+static int64_t displaced(const char *fault, int64_t got)
+{
+    if (has(fault, "places_from_1"))
+        return got - 1;
+    if (has(fault, "always_place_0"))
+        return got / 256 * 256;
+    return has(fault, "no_place") ? got / 256 : got;
 }
 
 /* Long enough there for another thread to come by. */
@@ -109,7 +120,7 @@ static int64_t call_wrongly(const char *fault, const struct call *call, uint8_t 
         return other_refusal(call->function, got);
     if (has(fault, "refuses_always"))
         return out == NULL ? other_refusal(call->function, 0) : -HEMOTUSAP_NO_ROOM;
-    return got;
+    return tells_place(got) ? displaced(fault, got) : got;
 }
 
 int64_t __wrap_call_library(const struct call *call, uint8_t *out)

@@ -6,20 +6,24 @@
 static const struct fault {
     const char *name;
     bool of_refusals; /* of functions that refuse, */
+    bool of_places;   /* of those that tell a place */
     bool of_outputs;  /* and of those that write */
     bool is_seen;     /* by the fuzzer, which has no oracle */
     bool is_read;     /* by the reader, which sees the answer alone */
 } faults[] = {
-    {"one_more", false, false, false, true},
-    {"refuses_always", false, false, false, true},
-    {"now_and_then", false, false, true, true},
-    {"other_refusal", true, false, false, false},
-    {"first_byte", false, true, false, true},
-    {"last_byte", false, true, false, true},
-    {"behind_the_answer", false, true, true, false},
-    {"behind_the_room", false, true, true, false},
-    {"before_the_room", false, true, true, false},
-    {"after_a_refusal", true, true, true, false},
+    {"one_more", .is_read = true},
+    {"refuses_always", .is_read = true},
+    {"now_and_then", .is_seen = true, .is_read = true},
+    {"other_refusal", .of_refusals = true},
+    {"places_from_1", .of_places = true, .is_seen = true},
+    {"always_place_0", .of_places = true, .is_seen = true},
+    {"no_place", .of_places = true, .is_seen = true},
+    {"first_byte", .of_outputs = true, .is_read = true},
+    {"last_byte", .of_outputs = true, .is_read = true},
+    {"behind_the_answer", .of_outputs = true, .is_seen = true},
+    {"behind_the_room", .of_outputs = true, .is_seen = true},
+    {"before_the_room", .of_outputs = true, .is_seen = true},
+    {"after_a_refusal", .of_refusals = true, .of_outputs = true, .is_seen = true},
 };
 
 static bool is_read(const struct function *function)
@@ -27,9 +31,19 @@ static bool is_read(const struct function *function)
     return function == &functions[FUNCTION_harmony];
 }
 
+static bool tells_places(const struct function *function)
+{
+    for (const struct refusal *at = function->refusals; at->number != NO_REFUSAL; at++)
+        if (at->input != NO_INPUT)
+            return true;
+    return false;
+}
+
 static void list(const struct function *function, const struct fault *fault)
 {
     if (fault->of_refusals && function->refusals[0].number == NO_REFUSAL)
+        return;
+    if (fault->of_places && !tells_places(function))
         return;
     if (fault->of_outputs && !function_writes(function))
         return;
@@ -44,6 +58,8 @@ static void list_own(const struct function *function)
 {
     for (const struct own_fault *own = own_faults(function); own->name != NULL; own++) {
         printf("%s %s %s\n", function->name, own->name, function->suite);
+        if (own->is_seen)
+            printf("%s %s fuzzer\n", function->name, own->name);
         if (own->is_read)
             printf("%s %s musicxml\n", function->name, own->name);
     }
@@ -76,5 +92,6 @@ int main(void)
         list_swapped(&functions[function]);
     }
     printf("%s by_a_shared_buffer threads\n", functions[FUNCTION_suffix].name);
+    printf("%s places_from_1 threads\n", functions[FUNCTION_voicing].name);
     return 0;
 }

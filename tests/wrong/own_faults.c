@@ -11,7 +11,14 @@ const struct own_fault *own_faults(const struct function *function)
         return faults_of_harmony;
     if (function == &functions[FUNCTION_candidate])
         return faults_of_candidate;
+    if (function == &functions[FUNCTION_voicing])
+        return faults_of_voicing;
     return none;
+}
+
+bool tells_place(int64_t got)
+{
+    return got <= -256;
 }
 
 /* Edited where there is room for all of it, then written into the call's room. */
@@ -36,5 +43,10 @@ int64_t call_with(const struct own_fault *fault, const struct call *call, uint8_
 {
     if (fault->edit != NULL)
         return call_edited(call, out, fault->edit);
-    return fault->answer != NULL ? fault->answer(call) : fault->call(call, out);
+    if (fault->answer != NULL)
+        return fault->answer(call);
+    if (fault->call != NULL)
+        return fault->call(call, out);
+    int64_t got = __real_call_library(call, out);
+    return tells_place(got) ? fault->retold(call, got) : got;
 }

@@ -6,17 +6,23 @@
 
 struct own_fault {
     const char *name;
-    bool is_read; /* a reader of what is written finds it too */
-    /* One of the three: the text that was written is edited, another number is given back where
-       none is written, or the call is made otherwise. */
+    bool is_read; /* a reader of what is written finds it too, */
+    bool is_seen; /* and so does the fuzzer, which has no oracle */
+    /* One of the four: the text that was written is edited, another number is given back where
+       none is written, a refusal that tells a place is told otherwise, or the call is made so. */
     void (*edit)(char *text);
     int64_t (*answer)(const struct call *call);
+    int64_t (*retold)(const struct call *call, int64_t got);
     callee *call;
 };
 
 /* Up to one without a name. */
 extern const struct own_fault faults_of_harmony[];
 extern const struct own_fault faults_of_candidate[];
+extern const struct own_fault faults_of_voicing[];
+
+/* Whether an answer is minus (256 * number + place). */
+bool tells_place(int64_t got);
 
 /* The function's own, or none. */
 const struct own_fault *own_faults(const struct function *function);
