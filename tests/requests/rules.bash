@@ -9,11 +9,16 @@ unless_note() { # LETTER ACCIDENTAL
   unless 5 "$1 <= 6 && -6 <= $2 && $2 <= 6"
 }
 
-# Fills `classes` and `intervals` with the pairs that are used, as many as the shorter list has.
-use_pairs() { # CLASSES INTERVALS
-  local used
+# Fills `classes` and `intervals`.
+both_lists() { # CLASSES INTERVALS
   numbers_in "$1" && classes=("${numbers[@]}")
   numbers_in "$2" && intervals=("${numbers[@]}")
+}
+
+# The same with the pairs that are used alone, as many as the shorter list has.
+use_pairs() { # CLASSES INTERVALS
+  local used
+  both_lists "$@"
   used=$((${#classes[@]} < ${#intervals[@]} ? ${#classes[@]} : ${#intervals[@]}))
   classes=("${classes[@]:0:used}") intervals=("${intervals[@]:0:used}")
 }

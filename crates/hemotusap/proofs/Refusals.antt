@@ -1,5 +1,6 @@
 -- What a host reads from a refusal, as the header's two functions read it.
---     numberIn, placeIn    a size below 256 is the number itself; of another they are quotient and remainder
+--     numberIn             a size below 256 is the number itself, of another it is the quotient by 256
+--     IsPlace              a size below 256 tells no place, another the remainder
 --     IsRead               minus a size from which a refusal's number is read, and the place if it tells one
 --     refusal-read         so it is with each refusal whose place is below 256
 --     voicing-places       a voicing's refusal tells no place, or one below 16
@@ -28,13 +29,9 @@ use Rattle.hemotusap.proofs.Wide.{as-written}
 abbrev pub numberIn : ℕ → ℕ
 numberIn size = cond (ltb size 256) size (size / 256)
 
-abbrev pub placeIn : ℕ → ℕ
-placeIn size = size % 256
-
--- of a place that is told
 abbrev pub IsPlace : Place → ℕ → Type 0
-IsPlace Place.None read = Unit {0}
-IsPlace (Place.At place) read = read ≡ place
+IsPlace Place.None size = size < 256
+IsPlace (Place.At place) size = (256 ≤ size) × (size % 256 ≡ place)
 
 abbrev pub IsBelow : ℕ → Place → Type 0
 IsBelow n Place.None = Unit {0}
@@ -44,10 +41,10 @@ pub record IsRead (number : ℕ) (place : Place) (given : ℤ) : Type 0 where
   pub size : ℕ
   pub minus-size : given ≡ negℤ (pos size)
   pub its-number : numberIn size ≡ number
-  pub its-place : IsPlace place (placeIn size)
+  pub its-place : IsPlace place size
 
 size-read : (number : ℕ) (place : Place) → 0 < number → number < 256 → IsBelow 256 place → IsRead number place (minus (sizeOf number place))
-size-read number Place.None some small h = record { size = number; minus-size = as-written number (omega arith); its-number = rw (lt-ltb number 256 small) refl; its-place = tt }
+size-read number Place.None some small h = record { size = number; minus-size = as-written number (omega arith); its-number = rw (lt-ltb number 256 small) refl; its-place = small }
 size-read number (Place.At place) some small h =
     let large : 256 ≤ 256 * number + place = omega arith in
     let quotient : (256 * number + place) / 256 ≡ number = omega arith in
@@ -55,7 +52,7 @@ size-read number (Place.At place) some small h =
       size = 256 * number + place;
       minus-size = as-written (256 * number + place) (omega arith);
       its-number = rw (le-ltb (256 * number + place) 256 large) quotient;
-      its-place = omega arith;
+      its-place = (large, omega arith);
     }
 
 pub refusal-read : (why : Refusal) → IsBelow 256 (toldOf why .place) → IsRead (toldOf why .number) (toldOf why .place) (refusalNumber why)
