@@ -11,20 +11,20 @@ pub record Told : Type 0 where
   pub place : Place
 
 -- a refusal that tells no place
-abbrev pub plain : ℕ → Told
-plain number = record { number = number; place = Place.None }
+abbrev pub withoutPlace : ℕ → Told
+withoutPlace number = record { number = number; place = Place.None }
 
 -- and one that does
-abbrev pub placed : ℕ → ℕ → Told
-placed number place = record { number = number; place = Place.At place }
+abbrev pub withPlace : ℕ → ℕ → Told
+withPlace number place = record { number = number; place = Place.At place }
 
 -- a refusal's number and place: "4 becomes 41 (note class) or 42 (interval), each with the pair's position from 0"
 abbrev pub toldOf : Refusal → Told
-toldOf NotASet = plain 1
-toldOf BadClass = plain 2
-toldOf TooManyPairs = plain 3
-toldOf (BadPairClass place) = placed 41 place
-toldOf (BadPairInterval place) = placed 42 place
-toldOf BadNote = plain 5
-toldOf BadMove = plain 6
-toldOf NoRoom = plain 7
+toldOf NotASet = withoutPlace 1
+toldOf BadClass = withoutPlace 2
+toldOf TooManyPairs = withoutPlace 3
+toldOf (BadPairClass place) = withPlace 41 place
+toldOf (BadPairInterval place) = withPlace 42 place
+toldOf BadNote = withoutPlace 5
+toldOf BadMove = withoutPlace 6
+toldOf NoRoom = withoutPlace 7
