@@ -1,10 +1,11 @@
 -- The first of a list that a test finds, in words that ask for no search.
---     IsFirst         it stands at its place, the test finds it, and finds none of those before it
---     Finds           what is found is the first; where nothing is found, the test finds none
+--     IsFirst         it stands at its place, it is as wanted, and each of those before it is not
+--     first-less      its place is below the list's length
+--     first-as        what is wanted, and what is not, said otherwise
+--     Finds           what a test finds is the first that passes it; where nothing is found, none does
 --     first-is        so it is with `firstWhere`
 --     first-found     and what is the first is found
 --     none-found      nothing, where the test finds none
---     first-less      its place is below the list's length
 --     foundFrom       what a search finds that begins at a place, in the elements from there on
 --     here, onward    it ends at one that the test finds, and goes on behind another
 --     from-0, at-end  begun at 0 it is `firstWhere`, and behind the last it finds nothing
@@ -12,21 +13,41 @@ use mathlib.Core.Option.{Option, none, some}
 use Rattle.answer.proofs.Kit.{_≡_, refl, sym, ap, _∙_, Bool, true, false, cond, List, [], _∷_, _++_, List·Memᴰ, List·Memᴰ·head, List·Memᴰ·tail, List·Memᴰ·not-nil, List·Memᴰ·cases-cons, ⊎-elim, ℕ, suc, _+_, _<_, add-zero, zero-add, arith, length, length-append}
 use Rattle.answer.specs.First.{further, firstWhere}
 
+pub record IsFirst {A : Type 0} (Wanted Other : A → Type 0) (l : List A) (place : ℕ) (x : A) : Type 0 where
+  pub before : List A
+  pub behind : List A
+  pub stands : l ≡ before ++ (x ∷ behind)
+  pub its-place : place ≡ length before
+  pub found : Wanted x
+  pub earlier : (y : A) → List·Memᴰ y before → Other y
+
+module _ {A : Type 0} {Wanted Other : A → Type 0} {l : List A} {place : ℕ} {x : A} (h : IsFirst Wanted Other l place x) where
+  pub first-less : place < length l
+  first-less = rw (h .stands, h .its-place) (simp length-append (omega arith))
+
+  pub first-as : {Wanted′ Other′ : A → Type 0} → Wanted′ x → ((y : A) → Other y → Other′ y) → IsFirst Wanted′ Other′ l place x
+  first-as found other = record {
+    before = h .before;
+    behind = h .behind;
+    stands = h .stands;
+    its-place = h .its-place;
+    found = found;
+    earlier = λ y m. other y (h .earlier y m);
+  }
+
 module _ {A : Type 0} (test : A → Bool) where
-  pub record IsFirst (l : List A) (place : ℕ) (x : A) : Type 0 where
-    pub before : List A
-    pub behind : List A
-    pub stands : l ≡ before ++ (x ∷ behind)
-    pub its-place : place ≡ length before
-    pub found : test x ≡ true
-    pub earlier : (y : A) → List·Memᴰ y before → test y ≡ false
+  abbrev pub Passes : A → Type 0
+  Passes x = test x ≡ true
+
+  abbrev pub Fails : A → Type 0
+  Fails x = test x ≡ false
 
   abbrev pub Finds : List A → Option (ℕ × A) → Type 0
-  Finds l none = (y : A) → List·Memᴰ y l → test y ≡ false
-  Finds l (some first) = IsFirst l (first .0) (first .1)
+  Finds l none = (y : A) → List·Memᴰ y l → Fails y
+  Finds l (some first) = IsFirst Passes Fails l (first .0) (first .1)
 
   -- one more in front that the test does not find
-  also-not : (x : A) (l : List A) → test x ≡ false → ((y : A) → List·Memᴰ y l → test y ≡ false) → (y : A) → List·Memᴰ y (x ∷ l) → test y ≡ false
+  also-not : (x : A) (l : List A) → Fails x → Finds l none → Finds (x ∷ l) none
   also-not x l e h y m = ⊎-elim (λ same. rw same e) (λ more. h y more) (List·Memᴰ·cases-cons m)
 
   pub first-is : (l : List A) → Finds l (firstWhere test l)
@@ -34,7 +55,7 @@ module _ {A : Type 0} (test : A → Bool) where
   first-is [] = λ y m. absurd (List·Memᴰ·not-nil m)
   first-is (x ∷ l) = by-test (test x) refl (firstWhere test l) (first-is l)
     where
-      behind-it : test x ≡ false → (o : Option (ℕ × A)) → Finds l o → Finds (x ∷ l) (further o)
+      behind-it : Fails x → (o : Option (ℕ × A)) → Finds l o → Finds (x ∷ l) (further o)
       behind-it e none h = also-not x l e h
       behind-it e (some first) h = record {
         before = x ∷ h .before;
@@ -49,23 +70,20 @@ module _ {A : Type 0} (test : A → Bool) where
       by-test true e o h = record { before = []; behind = l; stands = refl; its-place = refl; found = e; earlier = λ y m. absurd (List·Memᴰ·not-nil m) }
       by-test false e o h = behind-it e o h
 
-  stands-first : (before : List A) (x : A) (behind : List A) → test x ≡ true → ((y : A) → List·Memᴰ y before → test y ≡ false)
+  stands-first : (before : List A) (x : A) (behind : List A) → Passes x → Finds before none
       → firstWhere test (before ++ (x ∷ behind)) ≡ some (length before, x)
   unfolding firstWhere
   stands-first [] x behind e h = rw e
   stands-first (b ∷ before) x behind e h = rw (h b (List·Memᴰ·head refl)) (ap further (stands-first before x behind e (λ y m. h y (List·Memᴰ·tail m))))
 
-  pub first-found : (l : List A) (place : ℕ) (x : A) → IsFirst l place x → firstWhere test l ≡ some (place, x)
+  pub first-found : (l : List A) (place : ℕ) (x : A) → IsFirst Passes Fails l place x → firstWhere test l ≡ some (place, x)
   first-found l place x h =
       ap (firstWhere test) (h .stands) ∙ stands-first (h .before) x (h .behind) (h .found) (h .earlier) ∙ ap (λ (n : ℕ). some (n, x)) (sym (h .its-place))
 
-  pub none-found : (l : List A) → ((y : A) → List·Memᴰ y l → test y ≡ false) → firstWhere test l ≡ none
+  pub none-found : (l : List A) → Finds l none → firstWhere test l ≡ none
   unfolding firstWhere
   none-found [] h = refl
   none-found (x ∷ l) h = rw (h x (List·Memᴰ·head refl)) (ap further (none-found l (λ y m. h y (List·Memᴰ·tail m))))
-
-  pub first-less : (l : List A) (place : ℕ) (x : A) → IsFirst l place x → place < length l
-  first-less l place x h = rw (h .stands, h .its-place) (simp length-append (omega arith))
 
   abbrev pub shifted : ℕ → Option (ℕ × A) → Option (ℕ × A)
   shifted i none = none
@@ -74,11 +92,11 @@ module _ {A : Type 0} (test : A → Bool) where
   abbrev pub foundFrom : ℕ → List A → Option (ℕ × A)
   foundFrom i l = shifted i (firstWhere test l)
 
-  pub here : (i : ℕ) (x : A) (l : List A) → test x ≡ true → foundFrom i (x ∷ l) ≡ some (i, x)
+  pub here : (i : ℕ) (x : A) (l : List A) → Passes x → foundFrom i (x ∷ l) ≡ some (i, x)
   unfolding firstWhere
   here i x l e = rw (e, add-zero)
 
-  pub onward : (i : ℕ) (x : A) (l : List A) → test x ≡ false → foundFrom i (x ∷ l) ≡ foundFrom (i + 1) l
+  pub onward : (i : ℕ) (x : A) (l : List A) → Fails x → foundFrom i (x ∷ l) ≡ foundFrom (i + 1) l
   unfolding firstWhere
   onward i x l e = rw e (by-case (firstWhere test l))
     where

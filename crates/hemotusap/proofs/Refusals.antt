@@ -5,8 +5,9 @@
 --     refusal-read         so it is with each refusal whose place is below 256
 --     voicing-places       a voicing's refusal tells no place, or one below 16
 --     voicing-read         so number and place are read from what a call for a voicing gives back, in every room
-use Rattle.answer.proofs.Kit.{_≡_, refl, Bool, true, false, cond, _&&_, List, ℕ, _+_, _*_, _/_, _%_, _≤_, _<_, arith, leb, ltb, length, length-append, lt-ltb, le-ltb, ℤ, pos, negℤ}
+use Rattle.answer.proofs.Kit.{_≡_, refl, Bool, true, false, cond, _&&_, List, ℕ, _+_, _*_, _/_, _%_, _≤_, _<_, arith, leb, ltb, length, lt-ltb, le-ltb, ℤ, pos, negℤ}
 use Rattle.answer.specs.Refusals.{toldOf}
+use Rattle.answer.proofs.First.{first-less}
 use Rattle.answer.specs.Replies.{Reply, refuse, text, unlessRefused, fits, outputOf}
 use Rattle.answer.specs.declared.output.Output.{Output}
 use Rattle.answer.specs.declared.output.Output.the-variants as Output
@@ -74,10 +75,7 @@ TellsBelow n (refuse why) = IsBelow n (toldOf why .place)
 TellsBelow n (text t) = Unit {0}
 
 first-below : (Bad : Tone → Type 0) (tones : List Tone) (place : ℕ) → FirstBad Bad tones place → place < 16
-first-below Bad tones place h = omega (arith, h .its-place, inside, h .few)
-  where
-    inside : length (h .before) < length tones
-    inside = rw (h .stands) (simp length-append (omega arith))
+first-below Bad tones place h = omega (arith, first-less (h .first), h .few)
 
 module _ (lowest highest : ℕ) (chord : Chord) (classes intervals : List ℕ) where
   abbrev reply : Reply

@@ -5,10 +5,10 @@
 --     checked-says    so it is with `pairsChecked`
 --     said-only       and what a check that says so comes to is that outcome: each is given exactly in its case
 use mathlib.Core.Option.{Option, none, some, Option·elim}
-use Rattle.answer.proofs.Kit.{_≡_, refl, sym, ap, _∙_, Bool, true, false, cond, _&&_, List, _∷_, _++_, List·Memᴰ, ℕ, _≤_, _<_, leb, leb→le, length, lt-leb, le-leb, leb-false, not-false, not-true}
+use Rattle.answer.proofs.Kit.{_≡_, refl, sym, ap, _∙_, Bool, true, false, cond, _&&_, List, List·Memᴰ, ℕ, _≤_, _<_, leb, leb→le, length, lt-leb, le-leb, leb-false, not-false, not-true}
 use Rattle.answer.proofs.Tests.{left, right, said}
 use Rattle.answer.specs.First.{firstWhere}
-use Rattle.answer.proofs.First.{IsFirst, Finds, first-is, first-found, none-found}
+use Rattle.answer.proofs.First.{IsFirst, first-as, Passes, Fails, Finds, first-is, first-found, none-found}
 use Rattle.answer.specs.declared.refusal.Checked.{Checked}
 use Rattle.answer.specs.declared.refusal.Checked.the-variants.{Passed, Refused}
 use Rattle.answer.specs.declared.refusal.Refusal.{Refusal}
@@ -29,12 +29,7 @@ IntervalAbove t = (t .class ≤ 11) × (22 < t .interval)
 pub record FirstBad (Bad : Tone → Type 0) (tones : List Tone) (place : ℕ) : Type 0 where
   pub few : length tones ≤ 16
   pub pair : Tone
-  pub before : List Tone
-  pub behind : List Tone
-  pub stands : tones ≡ before ++ (pair ∷ behind)
-  pub its-place : place ≡ length before
-  pub bad : Bad pair
-  pub earlier : (t : Tone) → List·Memᴰ t before → IsGood t
+  pub first : IsFirst Bad IsGood tones place pair
 
 -- every other refusal is for something else
 abbrev pub SaysWhy : List Tone → Refusal → Type 0
@@ -60,27 +55,14 @@ not-bad : (t : Tone) → IsGood t → isBad t ≡ false
 not-bad t g = rw (le-leb _ _ (g .0), le-leb _ _ (g .1))
 
 module _ (tones : List Tone) (few : length tones ≤ 16) where
-  -- the first that the test finds, bad in one way
-  first-bad : (Bad : Tone → Type 0) (place : ℕ) (t : Tone) → IsFirst isBad tones place t → Bad t → FirstBad Bad tones place
-  first-bad Bad place t h bad = record {
-    few = few;
-    pair = t;
-    before = h .before;
-    behind = h .behind;
-    stands = h .stands;
-    its-place = h .its-place;
-    bad = bad;
-    earlier = λ y m. good y (h .earlier y m);
-  }
-
-  is-bad : (place : ℕ) (t : Tone) → IsFirst isBad tones place t → SaysWhy tones (badPair place t)
+  is-bad : (place : ℕ) (t : Tone) → IsFirst (Passes isBad) (Fails isBad) tones place t → SaysWhy tones (badPair place t)
   is-bad place t h = by-class (leb (t .class) 11) refl
     where
       by-class : (b : Bool) → leb (t .class) 11 ≡ b → SaysWhy tones (cond b (BadPairInterval place) (BadPairClass place))
       by-class true e =
           let wide : leb (t .interval) 22 ≡ false = sym (ap (λ (b : Bool). b && leb (t .interval) 22) e) ∙ not-true _ (h .found) in
-          first-bad IntervalAbove place t h (leb→le _ _ (said _ e), leb-false _ _ wide)
-      by-class false e = first-bad ClassAbove place t h (leb-false _ _ e)
+          record { few = few; pair = t; first = first-as h (leb→le _ _ (said _ e), leb-false _ _ wide) good }
+      by-class false e = record { few = few; pair = t; first = first-as h (leb-false _ _ e) good }
 
   first-says : Says tones (firstChecked tones)
   unfolding firstChecked Option·elim
@@ -100,21 +82,14 @@ checked-says tones = by-count (leb (length tones) 16) refl
 
 -- the first bad pair is the one that the test finds
 is-first : (Bad : Tone → Type 0) (tones : List Tone) (place : ℕ) → ((t : Tone) → Bad t → isBad t ≡ true) → (h : FirstBad Bad tones place) → firstWhere isBad tones ≡ some (place, h .pair)
-is-first Bad tones place bad h = first-found isBad tones place (h .pair) record {
-  before = h .before;
-  behind = h .behind;
-  stands = h .stands;
-  its-place = h .its-place;
-  found = bad (h .pair) (h .bad);
-  earlier = λ t m. not-bad t (h .earlier t m);
-}
+is-first Bad tones place bad h = first-found isBad tones place (h .pair) (first-as (h .first) (bad (h .pair) (h .first .found)) not-bad)
 
 said-why : (tones : List Tone) (why : Refusal) → SaysWhy tones why → pairsChecked tones ≡ Refused why
 unfolding pairsChecked firstChecked Option·elim
 said-why tones TooManyPairs h = rw (lt-leb _ _ h)
-said-why tones (BadPairClass place) h = rw (le-leb _ _ (h .few), is-first ClassAbove tones place (λ t above. rw (lt-leb _ _ above)) h, lt-leb _ _ (h .bad))
+said-why tones (BadPairClass place) h = rw (le-leb _ _ (h .few), is-first ClassAbove tones place (λ t above. rw (lt-leb _ _ above)) h, lt-leb _ _ (h .first .found))
 said-why tones (BadPairInterval place) h =
-    rw (le-leb _ _ (h .few), is-first IntervalAbove tones place (λ t above. rw (le-leb _ _ (above .0), lt-leb _ _ (above .1))) h, le-leb _ _ (h .bad .0))
+    rw (le-leb _ _ (h .few), is-first IntervalAbove tones place (λ t above. rw (le-leb _ _ (above .0), lt-leb _ _ (above .1))) h, le-leb _ _ (h .first .found .0))
 said-why tones NotASet h = absurd h
 said-why tones BadClass h = absurd h
 said-why tones BadNote h = absurd h
