@@ -1,17 +1,17 @@
 /* Hemotusap: chords from plain numbers, for C and C++ (hemotusap.hpp wraps it in types for C++17).
  *
  * An answer at or above 0 is a success. Below 0 it is minus the number of a refusal, which has a
- * name below; of a refusal that tells a place, it is minus (256 * number + place). Where several
- * apply, the first in that order is given. A refused call alters no byte; a successful one alters
- * only the bytes that it counts. A range of length 0 may have any pointer, NULL too. An output
- * overlaps no other range.
+ * name below; of a refusal that tells a place, it is minus (256 * number + place), whatever the
+ * place. Where several apply, the first in that order is given. A refused call alters no byte; a
+ * successful one alters only the bytes that it counts. A range of length 0 may have any pointer,
+ * NULL too. An output overlaps no other range.
  *
  * Sets: bit k is pitch class k, counted in semitones from the root; 0..4095.
  * Accidentals: the count of sharps, -6..6; flats are negative, 0 is none.
  *
  * No call allocates, keeps state or calls back: any thread may make any call at any time. Of the
- * stack harmony takes at most 1.4 KiB, candidates at most 0.8 KiB, and any other call at most
- * 0.6 KiB.
+ * stack harmony takes at most 1.4 KiB, candidates and candidates_strict at most 0.8 KiB, and any
+ * other call at most 0.6 KiB.
  */
 #ifndef HEMOTUSAP_H
 #define HEMOTUSAP_H
@@ -28,12 +28,15 @@ enum hemotusap_refusal {
     HEMOTUSAP_BAD_PAIR_INTERVAL = 42, /* an interval above 22 is used; its pair's place is told */
     HEMOTUSAP_BAD_NOTE = 5,           /* a letter above 6, or an accidental outside -6..6 */
     HEMOTUSAP_BAD_MOVE = 6,           /* semitones above 24, or a degree that is 0 or above 14 */
+    HEMOTUSAP_NOT_A_KEY = 11,         /* a code above 127, where only MIDI's keys are taken; its
+                                         place is told */
     HEMOTUSAP_NO_ROOM = 7             /* the output is shorter than the whole answer */
 };
 
 /* The number of a refusal, and the place that it tells, counted from 0. Places of pairs are below
  * 256, since at most 16 are used, so quotient and remainder by 256 tell the two. Of an answer at or
- * above 0, which is none, the number is 0; where no place is told, the place is -1. */
+ * above 0, which is none, the number is 0; where no place is told, the place is -1. What
+ * hemotusap_candidates_strict answers is for the two functions behind these. */
 static inline int64_t hemotusap_refusal_number(int64_t answer)
 {
     if (answer >= 0)
@@ -44,6 +47,23 @@ static inline int64_t hemotusap_refusal_number(int64_t answer)
 static inline int64_t hemotusap_refusal_place(int64_t answer)
 {
     return answer > -256 ? -1 : -(answer % 256);
+}
+
+/* The same for what hemotusap_candidates_strict answers. A list of codes may be of any length, and
+ * so may the place be above 255; but NOT_A_KEY is its one refusal that tells a place, so that what
+ * is left without 256 * NOT_A_KEY is the place. */
+static inline int64_t hemotusap_strict_refusal_number(int64_t answer)
+{
+    if (answer >= 0)
+        return 0;
+    if (answer > -256 * HEMOTUSAP_NOT_A_KEY)
+        return -answer;
+    return HEMOTUSAP_NOT_A_KEY;
+}
+
+static inline int64_t hemotusap_strict_refusal_place(int64_t answer)
+{
+    return answer > -256 * HEMOTUSAP_NOT_A_KEY ? -1 : -256 * HEMOTUSAP_NOT_A_KEY - answer;
 }
 
 /* What hemotusap_quality answers. */
@@ -150,6 +170,13 @@ int64_t hemotusap_tones(uint32_t root, uint32_t set, uint8_t *out, size_t room);
  * name of the first code unless it is the first, then LF. Answers the bytes written, at most 840
  * and 0 for an empty list; no NUL follows them. Refuses: NO_ROOM. */
 int64_t hemotusap_candidates(const uint8_t *codes, size_t count, uint8_t *out, size_t room);
+
+/* The same for a list of MIDI's keys, 0..127, alone: one with a code above 127, such as a status
+ * byte, is refused whole, and any other is answered exactly as by hemotusap_candidates, in every
+ * room. Refuses: NOT_A_KEY, NO_ROOM. Of codes above 127 the first counts, and its place is told,
+ * from 0 and below `count`: at place 300 the answer is -3116, which is -(256 * 11 + 300).
+ * hemotusap_strict_refusal_number and hemotusap_strict_refusal_place take the two apart. */
+int64_t hemotusap_candidates_strict(const uint8_t *codes, size_t count, uint8_t *out, size_t room);
 
 /* The number of candidates of a list, which is that of its classes: 0..12. Never refuses. */
 int64_t hemotusap_candidate_count(const uint8_t *codes, size_t count);

@@ -29,6 +29,7 @@ public:
         bad_pair_interval = HEMOTUSAP_BAD_PAIR_INTERVAL,
         bad_note = HEMOTUSAP_BAD_NOTE,
         bad_move = HEMOTUSAP_BAD_MOVE,
+        not_a_key = HEMOTUSAP_NOT_A_KEY,
         no_room = HEMOTUSAP_NO_ROOM
     };
 
@@ -225,6 +226,7 @@ constexpr std::string_view name(refusal why) noexcept {
     case refusal::bad_pair_interval: return "bad interval of a pair";
     case refusal::bad_note: return "bad note";
     case refusal::bad_move: return "bad move";
+    case refusal::not_a_key: return "not a key";
     case refusal::no_room: return "no room";
     }
     return "none";
@@ -243,20 +245,30 @@ inline const std::uint8_t *bytes(const interval *read) noexcept {
     return reinterpret_cast<const std::uint8_t *>(read);
 }
 
-// What a number below 0 tells.
-inline refusal refused(std::int64_t number) noexcept {
-    const auto why = static_cast<refusal::reason>(hemotusap_refusal_number(number));
-    const std::int64_t place = hemotusap_refusal_place(number);
+constexpr refusal refused(std::int64_t number, std::int64_t place) noexcept {
+    const auto why = static_cast<refusal::reason>(number);
     if (place < 0)
         return why;
     return refusal(why, static_cast<std::size_t>(place));
 }
 
+// What an answer below 0 tells..
+using teller = refusal(std::int64_t) noexcept;
+
+inline refusal told(std::int64_t answer) noexcept {
+    return refused(hemotusap_refusal_number(answer), hemotusap_refusal_place(answer));
+}
+
+// ..and one of a strict call, whose place may be above 255.
+inline refusal told_strictly(std::int64_t answer) noexcept {
+    return refused(hemotusap_strict_refusal_number(answer), hemotusap_strict_refusal_place(answer));
+}
+
 // The answer as a value of T, made of the boundary's number by `make`, or the refusal.
 template <class T, class Make>
-constexpr result<T> answered(std::int64_t number, Make make) noexcept {
+constexpr result<T> answered(std::int64_t number, Make make, teller *tell = told) noexcept {
     if (number < 0)
-        return refused(number);
+        return tell(number);
     return make(static_cast<std::size_t>(number));
 }
 
@@ -268,8 +280,9 @@ constexpr result<note> noted(std::int64_t number) noexcept {
 
 // The part of the room that was written, as a View of it.
 template <class View, class T>
-constexpr result<View> written(range<T> room, std::int64_t number) noexcept {
-    return answered<View>(number, [room](std::size_t count) { return View(room.data(), count); });
+constexpr result<View> written(range<T> room, std::int64_t number, teller *tell = told) noexcept {
+    return answered<View>(
+        number, [room](std::size_t count) { return View(room.data(), count); }, tell);
 }
 
 // At the boundary 255 is no bass. Here it is a class like any other above 11, and goes as 256.
@@ -309,6 +322,15 @@ inline result<std::string_view> candidates(range<const std::uint8_t> codes,
     return detail::written<std::string_view>(
         out,
         hemotusap_candidates(codes.data(), codes.size(), detail::bytes(out.data()), out.size()));
+}
+
+inline result<std::string_view> candidates_strict(range<const std::uint8_t> codes,
+                                                  range<char> out) noexcept {
+    return detail::written<std::string_view>(
+        out,
+        hemotusap_candidates_strict(codes.data(), codes.size(), detail::bytes(out.data()),
+                                    out.size()),
+        detail::told_strictly);
 }
 
 inline std::size_t candidate_count(range<const std::uint8_t> codes) noexcept {

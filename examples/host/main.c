@@ -5,23 +5,24 @@
 #include <inttypes.h>
 #include <stdio.h>
 
-static const char *why(int64_t answer)
+static const char *why(int64_t number)
 {
-    switch (hemotusap_refusal_number(answer)) {
+    switch (number) {
     case HEMOTUSAP_NOT_A_SET:
         return "not a set";
     case HEMOTUSAP_BAD_PAIR_CLASS:
         return "bad class of a pair";
+    case HEMOTUSAP_NOT_A_KEY:
+        return "not a key";
     default:
         return "for another reason";
     }
 }
 
 /* Some refusals tell at which place. */
-static void show_refusal(const char *what, int64_t answer)
+static void show_refusal(const char *what, int64_t number, int64_t place)
 {
-    int64_t place = hemotusap_refusal_place(answer);
-    printf("%s: refused, %s", what, why(answer));
+    printf("%s: refused, %s", what, why(number));
     if (place >= 0)
         printf(", at %" PRId64, place);
     printf("\n");
@@ -33,7 +34,7 @@ static void show(const char *what, int64_t answer, const uint8_t *text)
     if (answer >= 0)
         printf("%s: %.*s\n", what, (int)answer, (const char *)text);
     else
-        show_refusal(what, answer);
+        show_refusal(what, hemotusap_refusal_number(answer), hemotusap_refusal_place(answer));
 }
 
 static void symbols(void)
@@ -45,6 +46,19 @@ static void symbols(void)
     printf("%.*s", (int)written, (const char *)lines);
     show("suffix of 1169", hemotusap_suffix(1169, name, sizeof name), name);
     show("suffix of 4096", hemotusap_suffix(4096, name, sizeof name), name);
+}
+
+/* For keys off a cable: 144 is a status byte. The refusals of this call are read by functions of
+   their own. */
+static void strict_symbols(void)
+{
+    static const uint8_t keys[] = {60, 64}, spoiled[] = {60, 64, 144};
+    uint8_t lines[HEMOTUSAP_CANDIDATES_ROOM];
+    int64_t written = hemotusap_candidates_strict(keys, sizeof keys, lines, sizeof lines);
+    int64_t refused = hemotusap_candidates_strict(spoiled, sizeof spoiled, lines, sizeof lines);
+    printf("60 64:\n%.*s", (int)written, (const char *)lines);
+    show_refusal("60 64 144", hemotusap_strict_refusal_number(refused),
+                 hemotusap_strict_refusal_place(refused));
 }
 
 /* Each candidate by its number, up to the one that is not there. */
@@ -123,6 +137,7 @@ int main(void)
 {
     symbols();
     sets();
+    strict_symbols();
     elements();
     qualities();
     notes();

@@ -61,6 +61,16 @@ void symbols() {
     show("sets of 7(b13)", hemotusap::listing("7(b13)", sets)); // 1297 1425 3345 3473
 }
 
+// For keys off a cable: 144 is a status byte.
+void strict_symbols() {
+    const std::array<std::uint8_t, 2> keys{60, 64};
+    const std::vector<std::uint8_t> spoiled{60, 64, 144};
+    char lines[hemotusap::candidates_room];
+    if (const auto chords = hemotusap::candidates_strict(keys, lines))
+        std::printf("60 64:\n%.*s", static_cast<int>(chords->size()), chords->data());
+    show("60 64 144", hemotusap::candidates_strict(spoiled, lines));
+}
+
 // Each candidate by its number, up to the one that is not there.
 void elements() {
     const std::array<std::uint8_t, 3> keys{60, 64, 67};
@@ -99,6 +109,7 @@ void voicings() {
 
 int main() {
     symbols();
+    strict_symbols();
     elements();
     qualities();
     notes();

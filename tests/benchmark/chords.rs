@@ -19,18 +19,34 @@ pub fn text(out: &[u8], length: i64) -> Cow<'_, str> {
 }
 
 pub fn candidates(lists: &[Vec<u8>]) -> Times {
+    candidates_beside(descriptors_from_midi_codes, host::candidates, lists)
+}
+
+pub fn candidates_strict(lists: &[Vec<u8>]) -> Times {
+    candidates_beside(of_keys, host::candidates_strict, lists)
+}
+
+/// The Rust takes any code: in front of its call stands a search for one that is no key.
+fn of_keys(codes: &[u8]) -> Vec<String> {
+    match codes.iter().position(|&code| code > 127) {
+        Some(_) => Vec::new(),
+        None => descriptors_from_midi_codes(codes),
+    }
+}
+
+fn candidates_beside(
+    rust: impl Fn(&[u8]) -> Vec<String>,
+    ours: impl Fn(&[u8], &mut [u8]) -> i64,
+    lists: &[Vec<u8>],
+) -> Times {
     let mut out = [0; ROOM];
     for list in lists {
-        let mut lines = descriptors_from_midi_codes(list).join("\n");
+        let mut lines = rust(list).join("\n");
         lines.push('\n');
-        let length = host::candidates(list, &mut out);
+        let length = ours(list, &mut out);
         assert_eq!(lines, text(&out, length), "of {list:?}");
     }
-    in_turns(
-        lists,
-        |list| descriptors_from_midi_codes(list),
-        |list| host::candidates(list, &mut out),
-    )
+    in_turns(lists, |list| rust(list), |list| ours(list, &mut out))
 }
 
 /// A set as the library takes it, and as the Rust does.

@@ -7,6 +7,12 @@ unsafe extern "C" {
     fn hemotusap_suffix(set: u32, out: *mut u8, room: usize) -> i64;
     fn hemotusap_listing(suffix: *const u8, length: usize, out: *mut u8, room: usize) -> i64;
     fn hemotusap_candidates(codes: *const u8, count: usize, out: *mut u8, room: usize) -> i64;
+    fn hemotusap_candidates_strict(
+        codes: *const u8,
+        count: usize,
+        out: *mut u8,
+        room: usize,
+    ) -> i64;
     fn hemotusap_candidate(codes: *const u8, count: usize, number: u32) -> i64;
     fn hemotusap_harmony(root: u32, bass: u32, set: u32, out: *mut u8, room: usize) -> i64;
     fn hemotusap_voicing(
@@ -44,6 +50,11 @@ pub fn listing(suffix: &[u8], out: &mut [u8]) -> i64 {
 #[inline]
 pub fn candidates(codes: &[u8], out: &mut [u8]) -> i64 {
     unsafe { hemotusap_candidates(codes.as_ptr(), codes.len(), out.as_mut_ptr(), out.len()) }
+}
+
+#[inline]
+pub fn candidates_strict(codes: &[u8], out: &mut [u8]) -> i64 {
+    unsafe { hemotusap_candidates_strict(codes.as_ptr(), codes.len(), out.as_mut_ptr(), out.len()) }
 }
 
 #[inline]

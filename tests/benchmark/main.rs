@@ -67,6 +67,14 @@ fn calls() {
     for (what, length, count) in LENGTHS {
         row(what, candidates(&draws.lists(count, length)));
     }
+    row(
+        "candidates_strict of 1 to 10 codes",
+        chords::candidates_strict(&Draws(1).lists_up_to(1_000, 10)),
+    );
+    row(
+        "candidates_strict of 1,000 codes",
+        chords::candidates_strict(&Draws(1).lists(1_000, 1_000)),
+    );
     row("suffix, 2,048 rooted sets", chords::suffix(1..=12));
     row(
         "suffix, the Rust by its public call",

@@ -1,5 +1,6 @@
-/* candidates, candidate_count and candidate, by the oracle: every set of classes with every first
-   class, long lists, and drawn ones, of which there are as many as the command says. */
+/* candidates, candidate_count, candidate and candidates_strict, by the oracle: every set of classes
+   with every first class, long lists, and drawn ones, of which there are as many as the command
+   says. */
 #include <stdbool.h>
 #include <string.h>
 
@@ -8,27 +9,35 @@
 #include "lists.h"
 #include "numbers_above.h"
 #include "oracle_lines.h"
+#include "strict.h"
 #include "suite.h"
 #include "written.h"
 
 /* Of the sets' lists one in EVERY_ROOM is tried in every room, and those of all classes. */
 enum { SETS = 4096, ALL_CLASSES = SETS - 1, EVERY_ROOM = 431, MOST_ROOM = 1024 };
 
-static void in_every_room(struct run *run, const struct range *list, const struct lines *want)
+static void in_room(struct run *run, const struct range *list, const struct lines *want,
+                    size_t room)
 {
-    expect_written(run, CALL_ON(candidates, list), want->text, want->length);
+    expect_written_in(run, CALL_ON(candidates, list), want->text, want->length, room);
+    expect_strict_in(run, list, want, room);
 }
 
-/* The exact room, its neighbours, a drawn one that is too small or just enough, and any. */
+static void in_every_room(struct run *run, const struct range *list, const struct lines *want)
+{
+    for (size_t room = 0; room <= want->length + 1; room++)
+        in_room(run, list, want, room);
+}
+
+/* None, the exact room, its neighbours, a drawn one that is too small or just enough, and any. */
 static void in_some_rooms(struct run *run, const struct range *list, const struct lines *want,
                           uint64_t state)
 {
-    const struct call *call = CALL_ON(candidates, list);
     uint32_t length = (uint32_t)want->length;
-    const uint32_t rooms[] = {length, length + 1, length == 0 ? 0 : length - 1,
+    const uint32_t rooms[] = {0, length, length + 1, length == 0 ? 0 : length - 1,
                               draw_below(&state, length + 1), draw_below(&state, MOST_ROOM)};
     for (unsigned at = 0; at < LENGTH(rooms); at++)
-        expect_written_in(run, call, want->text, want->length, rooms[at]);
+        in_room(run, list, want, rooms[at]);
 }
 
 static void lines_of(struct run *run, struct range list, bool every_room, uint64_t state)
@@ -73,13 +82,17 @@ static void one_list(struct run *run, struct range list, bool every_room, uint64
     parts_of(run, list, state);
 }
 
+/* In codes of all octaves, and in keys. */
 static void set_with_first(struct run *run, uint32_t set, unsigned first)
 {
+    static const unsigned octaves[] = {OCTAVES, KEY_OCTAVES};
     uint32_t number = set * CLASSES + first;
     bool every_room = number % EVERY_ROOM == 0 || set == ALL_CLASSES;
-    struct list list = list_of_set(set, first);
-    one_list(run, (struct range){list.codes, list.length}, every_room,
-             draws_of(run->seed, number));
+    for (unsigned at = 0; at < LENGTH(octaves); at++) {
+        struct list list = list_of_set(set, first, octaves[at]);
+        one_list(run, (struct range){list.codes, list.length}, every_room,
+                 draws_of(run->seed, number));
+    }
 }
 
 static void sets_with_first(struct run *run)
@@ -103,6 +116,16 @@ static void long_lists(struct run *run)
     }
 }
 
+/* The last key alone, and as every code. */
+static void lists_of_the_last_key(struct run *run)
+{
+    static const size_t lengths[] = {1, 2, 255, 256, 257, 400};
+    uint8_t codes[400];
+    memset(codes, LAST_KEY, sizeof codes);
+    for (unsigned at = 0; at < LENGTH(lengths); at++)
+        one_list(run, (struct range){codes, lengths[at]}, true, draws_of(run->seed, at));
+}
+
 static void drawn_lists(struct run *run)
 {
     for (uint64_t number = 0; number < run->count; number++) {
@@ -116,6 +139,7 @@ static void every_list(struct run *run)
 {
     sets_with_first(run);
     long_lists(run);
+    lists_of_the_last_key(run);
     drawn_lists(run);
 }
 
@@ -137,7 +161,7 @@ static void the_papers_list(struct run *run)
 /* Of a list of all classes, so that a number cut to fewer bits would be one of its candidates. */
 static void expect_no_candidate(struct run *run, int64_t number)
 {
-    struct list all = list_of_set(ALL_CLASSES, 0);
+    struct list all = list_of_set(ALL_CLASSES, 0, OCTAVES);
     expect_candidate(run, &(const struct range){all.codes, all.length}, number, 0);
 }
 
@@ -145,6 +169,7 @@ static void stated_candidates(struct run *run)
 {
     the_papers_list(run);
     numbers_above(run, CLASSES, expect_no_candidate);
+    bad_codes(run);
 }
 
 const struct suite candidates_suite = {"candidates", every_list, stated_candidates};

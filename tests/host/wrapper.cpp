@@ -4,6 +4,7 @@
 
 #include <array>
 #include <cstdio>
+#include <initializer_list>
 #include <string>
 #include <vector>
 
@@ -71,6 +72,7 @@ void refusals() {
     EXPECT(get_note({}, 0, 15).error() == refusal::bad_move);
     EXPECT(listing("7(b13)", room(keys, 7)).error() == refusal::no_room);
     EXPECT(candidates(zeros, {}).error() == refusal::no_room);
+    EXPECT(candidates_strict(zeros, {}).error() == refusal::no_room);
     EXPECT(harmony(0, {}, 2, text).error() == refusal::not_a_set);
     EXPECT(harmony(12, {}, 1, text).error() == refusal::bad_class);
     EXPECT(harmony(0, {}, 145, text).error() == refusal::no_room);
@@ -101,18 +103,52 @@ void places() {
     EXPECT(bad_part(voicing(12, {}, classes, intervals, {}, keys).error()) == "neither");
 }
 
-// What hemotusap.h reads off an answer, of whatever kind.
-void parts_of_answers() {
-    const struct {
-        std::int64_t answer, number, place;
-    } rows[] = {{INT64_MAX, 0, -1}, {1024, 0, -1}, {0, 0, -1}, {-1, 1, -1}, {-7, 7, -1},
-                {-255, 255, -1}, {-256, 1, 0}, {-257, 1, 1}, {-10496, 41, 0}, {-10511, 41, 15},
-                {-10751, 41, 255}, {-10752, 42, 0}, {-10767, 42, 15},
-                {INT64_MIN + 1, (INT64_C(1) << 55) - 1, 255}, {INT64_MIN, INT64_C(1) << 55, 0}};
-    for (const auto &row : rows) {
-        EXPECT(hemotusap_refusal_number(row.answer) == row.number);
-        EXPECT(hemotusap_refusal_place(row.answer) == row.place);
+// A place of any size, in no room too; and where every code is a key, what candidates answers.
+void strict() {
+    std::vector<std::uint8_t> codes(70000, 127);
+    char one[candidates_room], other[candidates_room];
+    EXPECT(*candidates_strict(codes, one) == *candidates(codes, other));
+    EXPECT(candidates_strict({}, {}) && candidates_strict({}, {})->empty());
+    for (const std::size_t place : {69999u, 65536u, 300u, 256u, 255u, 15u, 1u, 0u}) {
+        codes[place] = 128;
+        const refusal why = candidates_strict(codes, {}).error();
+        EXPECT(why == refusal::not_a_key && why.number() == 11 && why.place() == place);
+        EXPECT(name(why) == "not a key" && candidates(codes, other)->size() > 0);
+        EXPECT(hemotusap_candidates_strict(codes.data(), codes.size(), nullptr, 0) ==
+               -2816 - static_cast<std::int64_t>(place));
     }
+    codes.assign(301, 60);
+    codes[300] = 255;
+    EXPECT(hemotusap_candidates_strict(codes.data(), codes.size(), nullptr, 0) == -3116);
+    EXPECT(!candidates_strict(bytes(codes.data(), 300), {}).error().place());
+}
+
+// An answer, and what hemotusap.h reads off it.
+struct parts {
+    std::int64_t answer, number, place;
+};
+
+using reader = std::int64_t (*)(std::int64_t);
+
+void read(std::initializer_list<parts> rows, reader number, reader place) {
+    for (const parts &row : rows) {
+        EXPECT(number(row.answer) == row.number);
+        EXPECT(place(row.answer) == row.place);
+    }
+}
+
+// Of whatever kind; of a strict call every size from 256 * 11 up is that number and a place.
+void parts_of_answers() {
+    read({{INT64_MAX, 0, -1}, {1024, 0, -1}, {0, 0, -1}, {-1, 1, -1}, {-7, 7, -1},
+          {-255, 255, -1}, {-256, 1, 0}, {-257, 1, 1}, {-10496, 41, 0}, {-10511, 41, 15},
+          {-10751, 41, 255}, {-10752, 42, 0}, {-10767, 42, 15},
+          {INT64_MIN + 1, (INT64_C(1) << 55) - 1, 255}, {INT64_MIN, INT64_C(1) << 55, 0}},
+         hemotusap_refusal_number, hemotusap_refusal_place);
+    read({{INT64_MAX, 0, -1}, {840, 0, -1}, {0, 0, -1}, {-1, 1, -1}, {-7, 7, -1}, {-11, 11, -1},
+          {-256, 256, -1}, {-2815, 2815, -1}, {-2816, 11, 0}, {-2817, 11, 1}, {-3071, 11, 255},
+          {-3072, 11, 256}, {-3116, 11, 300}, {-68352, 11, 65536},
+          {INT64_MIN + 1, 11, INT64_MAX - 2816}, {INT64_MIN, 11, INT64_MAX - 2815}},
+         hemotusap_strict_refusal_number, hemotusap_strict_refusal_place);
 }
 
 // Of what is absent or out of place, and of nothing at all.
@@ -153,6 +189,7 @@ void elements() {
 int main() {
     refusals();
     places();
+    strict();
     parts_of_answers();
     edges();
     elements();

@@ -48,7 +48,17 @@ static size_t take_suffix(struct source *from, uint8_t *bytes)
     return (size_t)length;
 }
 
-/* Of 16 inputs 13 are good; one is of any bytes, and two have such a one in 5 or in 16. */
+/* So that a first bad byte stands far behind too. */
+static void spoil_one(struct source *from, int64_t highest, uint8_t *bytes, size_t length)
+{
+    if (length == 0 || highest == UINT8_MAX)
+        return;
+    size_t place = take(from, 2) % length;
+    bytes[place] = (uint8_t)(highest + 1 + take(from, 1) % (UINT8_MAX - highest));
+}
+
+/* Of 16 inputs 12 are good; one is of any bytes, two have such a one in 5 or in 16, and one has a
+   single bad one. */
 static size_t take_bytes(struct source *from, int64_t highest, uint8_t *bytes)
 {
     static const unsigned apart[16] = {1, 5, 16};
@@ -60,6 +70,8 @@ static size_t take_bytes(struct source *from, int64_t highest, uint8_t *bytes)
         bool any = between != 0 && (at + from_first) % between == 0;
         bytes[at] = (uint8_t)(any ? byte : byte % (highest + 1));
     }
+    if (goodness % 16 == 3)
+        spoil_one(from, highest, bytes, length);
     return length;
 }
 

@@ -34,6 +34,12 @@ unless_pairs() { # CLASSES INTERVALS
   done
 }
 
+unless_keys() { # CODES
+  local numbers i
+  numbers_in "$1"
+  for i in "${!numbers[@]}"; do unless $((256 * 11 + i)) "${numbers[i]} <= 127"; done
+}
+
 # Sets `refused` to the first that applies, or to 0.
 refuse() { # NAME ARGUMENTS...
   refused=0
@@ -44,6 +50,7 @@ refuse() { # NAME ARGUMENTS...
       unless 1 "$3 <= 4095 && $3 % 2"
       unless 2 "$2 <= 11"
       ;;
+    candidates_strict) unless_keys "$2" ;;
     note_text) unless_note "$2" "$3" ;;
     get_note)
       unless_note "$2" "$3"

@@ -35,14 +35,28 @@ static int64_t other_refusal(const struct function *function, int64_t got)
     return other;
 }
 
-/* A refusal that tells a place, with another or with none. */
-static int64_t displaced(const char *fault, int64_t got)
+/* Of the refusals that tell a place, the one of this answer, whose place may be above 255. */
+static const struct refusal *placed(const struct function *function, int64_t got)
 {
+    const struct refusal *found = NULL;
+    for (const struct refusal *at = function->refusals; at->number != NO_REFUSAL; at++)
+        if (at->input != NO_INPUT && got <= refusal_answer(at, 0) &&
+            (found == NULL || found->number < at->number))
+            found = at;
+    return found;
+}
+
+/* A refusal that tells a place, with another or with none. */
+static int64_t displaced(const char *fault, const struct function *function, int64_t got)
+{
+    const struct refusal *refusal = placed(function, got);
+    if (refusal == NULL)
+        return got;
     if (has(fault, "places_from_1"))
         return got - 1;
     if (has(fault, "always_place_0"))
-        return got / 256 * 256;
-    return has(fault, "no_place") ? got / 256 : got;
+        return refusal_answer(refusal, 0);
+    return has(fault, "no_place") ? -refusal->number : got;
 }
 
 /* Long enough there for another thread to come by. */
@@ -120,7 +134,7 @@ static int64_t call_wrongly(const char *fault, const struct call *call, uint8_t 
         return other_refusal(call->function, got);
     if (has(fault, "refuses_always"))
         return out == NULL ? other_refusal(call->function, 0) : -HEMOTUSAP_NO_ROOM;
-    return tells_place(got) ? displaced(fault, got) : got;
+    return displaced(fault, call->function, got);
 }
 
 int64_t __wrap_call_library(const struct call *call, uint8_t *out)

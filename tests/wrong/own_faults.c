@@ -7,16 +7,19 @@ enum { MOST_TEXT = 4096 }; /* an edit may lengthen it */
 const struct own_fault *own_faults(const struct function *function)
 {
     static const struct own_fault none[] = {{.name = NULL}};
-    if (function == &functions[FUNCTION_harmony])
-        return faults_of_harmony;
-    if (function == &functions[FUNCTION_candidate])
-        return faults_of_candidate;
-    if (function == &functions[FUNCTION_voicing])
-        return faults_of_voicing;
-    return none;
+    static const struct own_fault *const of[FUNCTIONS] = {
+        [FUNCTION_candidates] = faults_of_candidates,
+        [FUNCTION_voicing] = faults_of_voicing,
+        [FUNCTION_harmony] = faults_of_harmony,
+        [FUNCTION_candidate] = faults_of_candidate,
+        [FUNCTION_candidates_strict] = faults_of_candidates_strict,
+    };
+    const struct own_fault *own = of[function - functions];
+    return own == NULL ? none : own;
 }
 
-bool tells_place(int64_t got)
+/* Whether an answer is minus (256 * number + place). */
+static bool tells_place(int64_t got)
 {
     return got <= -256;
 }

@@ -17,12 +17,11 @@ struct own_fault {
 };
 
 /* Up to one without a name. */
+extern const struct own_fault faults_of_candidates[];
+extern const struct own_fault faults_of_voicing[];
 extern const struct own_fault faults_of_harmony[];
 extern const struct own_fault faults_of_candidate[];
-extern const struct own_fault faults_of_voicing[];
-
-/* Whether an answer is minus (256 * number + place). */
-bool tells_place(int64_t got);
+extern const struct own_fault faults_of_candidates_strict[];
 
 /* The function's own, or none. */
 const struct own_fault *own_faults(const struct function *function);

@@ -6,11 +6,8 @@
 --     first-is        so it is with `firstWhere`
 --     first-found     and what is the first is found
 --     none-found      nothing, where the test finds none
---     foundFrom       what a search finds that begins at a place, in the elements from there on
---     here, onward    it ends at one that the test finds, and goes on behind another
---     from-0, at-end  begun at 0 it is `firstWhere`, and behind the last it finds nothing
 use mathlib.Core.Option.{Option, none, some}
-use Rattle.answer.proofs.Kit.{_≡_, refl, sym, ap, _∙_, Bool, true, false, cond, List, [], _∷_, _++_, List·Memᴰ, List·Memᴰ·head, List·Memᴰ·tail, List·Memᴰ·not-nil, List·Memᴰ·cases-cons, ⊎-elim, ℕ, suc, _+_, _<_, add-zero, zero-add, arith, length, length-append}
+use Rattle.answer.proofs.Kit.{_≡_, refl, sym, ap, _∙_, Bool, true, false, cond, List, [], _∷_, _++_, List·Memᴰ, List·Memᴰ·head, List·Memᴰ·tail, List·Memᴰ·not-nil, List·Memᴰ·cases-cons, ⊎-elim, ℕ, suc, _<_, arith, length, length-append}
 use Rattle.answer.specs.First.{further, firstWhere}
 
 pub record IsFirst {A : Type 0} (Wanted Other : A → Type 0) (l : List A) (place : ℕ) (x : A) : Type 0 where
@@ -84,33 +81,3 @@ module _ {A : Type 0} (test : A → Bool) where
   unfolding firstWhere
   none-found [] h = refl
   none-found (x ∷ l) h = rw (h x (List·Memᴰ·head refl)) (ap further (none-found l (λ y m. h y (List·Memᴰ·tail m))))
-
-  abbrev pub shifted : ℕ → Option (ℕ × A) → Option (ℕ × A)
-  shifted i none = none
-  shifted i (some found) = some (i + found .0, found .1)
-
-  abbrev pub foundFrom : ℕ → List A → Option (ℕ × A)
-  foundFrom i l = shifted i (firstWhere test l)
-
-  pub here : (i : ℕ) (x : A) (l : List A) → Passes x → foundFrom i (x ∷ l) ≡ some (i, x)
-  unfolding firstWhere
-  here i x l e = rw (e, add-zero)
-
-  pub onward : (i : ℕ) (x : A) (l : List A) → Fails x → foundFrom i (x ∷ l) ≡ foundFrom (i + 1) l
-  unfolding firstWhere
-  onward i x l e = rw e (by-case (firstWhere test l))
-    where
-      by-case : (o : Option (ℕ × A)) → shifted i (further o) ≡ shifted (i + 1) o
-      by-case none = refl
-      by-case (some found) = let next : i + suc (found .0) ≡ i + 1 + found .0 = omega arith in ap (λ (n : ℕ). some (n, found .1)) next
-
-  pub from-0 : (l : List A) → foundFrom 0 l ≡ firstWhere test l
-  from-0 l = by-case (firstWhere test l)
-    where
-      by-case : (o : Option (ℕ × A)) → shifted 0 o ≡ o
-      by-case none = refl
-      by-case (some found) = ap (λ (n : ℕ). some (n, found .1)) (zero-add (found .0))
-
-  pub at-end : (i : ℕ) → foundFrom i [] ≡ none
-  unfolding firstWhere
-  at-end i = refl

@@ -10,3 +10,4 @@ pub mod Determined
 pub mod Texts
 pub mod Parts
 pub mod First
+pub mod FirstRefused

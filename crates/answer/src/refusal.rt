@@ -2,7 +2,7 @@
 ghost use mathlib.Core.Path.{_≡_};
 ghost use Rattle.answer.specs.Refusals.{toldOf};
 
-// A bad pair's place is its position among the pairs, from 0.
+// A bad pair's place is its position among the pairs, from 0, and that of a code that is no key its position in the list.
 pub enum Refusal {
     NotASet,
     BadClass,
@@ -11,6 +11,7 @@ pub enum Refusal {
     BadPairInterval(usize),
     BadNote,
     BadMove,
+    NotAKey(usize),
     NoRoom,
 }
 
@@ -37,6 +38,7 @@ impl Refusal {
             Refusal::BadPairInterval(_) => 42,
             Refusal::BadNote => 5,
             Refusal::BadMove => 6,
+            Refusal::NotAKey(_) => 11,
             Refusal::NoRoom => 7,
         }
     }
@@ -52,6 +54,7 @@ impl Refusal {
             Refusal::BadPairInterval(place) => Place::At(place),
             Refusal::BadNote => Place::None,
             Refusal::BadMove => Place::None,
+            Refusal::NotAKey(place) => Place::At(place),
             Refusal::NoRoom => Place::None,
         }
     }

@@ -5,6 +5,8 @@ use Rattle.answer.proofs.Determined.{Decides, DecidesWith, determined, both}
 use Rattle.candidates.proofs.lines.candidates.Reads as candidates
 use Rattle.candidates.proofs.lines.candidate_count.Reads as candidate-count
 use Rattle.candidates.proofs.numbered.candidate.Reads as candidate
+use Rattle.candidates.proofs.strict.check_keys.Reads as check-keys
+use Rattle.candidates.proofs.strict.candidates_strict.Reads as candidates-strict
 
 pub candidates-decides : DecidesWith candidates.Post (λ κs s. now (s .1 .0))
 candidates-decides κs a r r′ s s′ = both
@@ -14,3 +16,9 @@ candidate-count-decides κs a r r′ s s′ = determined
 
 pub candidate-decides : Decides candidate.Post
 candidate-decides κs a r r′ s s′ = determined
+
+pub check-keys-decides : Decides check-keys.Post
+check-keys-decides κs a r r′ s s′ = determined
+
+pub candidates-strict-decides : DecidesWith candidates-strict.Post (λ κs s. now (s .1 .0))
+candidates-strict-decides κs a r r′ s s′ = both

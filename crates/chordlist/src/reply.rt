@@ -1,12 +1,12 @@
-// The text that answers a line: the candidates of its codes and a full stop, or a question mark.
+// The text that answers a line: the candidates of its keys and a full stop, or a question mark.
 use crate::codes::Codes;
 use crate::codes::read_codes;
 use answer::output::Output;
-use candidates::lines::candidates;
+use candidates::strict::candidates_strict;
 ghost use Prim.Native.Nat.{_≤_};
 ghost use lib.ListN.{length};
 ghost use Rattle.names.specs.Names.{flats};
-ghost use Rattle.chordlist.specs.Replies.{codesText, lineText};
+ghost use Rattle.chordlist.specs.Replies.{badText, codesText, lineText};
 ghost use Rattle.chordlist.specs.private.Calls.{mostPrinted, Printed};
 
 // Candidates have at most 840 bytes, and then comes the line `.`.
@@ -28,22 +28,29 @@ pub(crate) fn reply(line: &[u8], out: &mut [u8]) -> usize
             return reply_codes(&codes[..count], out);
         }
     }
-    out[0] = b'?';
-    out[1] = b'\n';
-    2
+    reply_bad(out)
 }
 
 fn reply_codes(codes: &[u8], out: &mut [u8]) -> usize
     requires { ⌜ mostPrinted ≤ length (now out) ⌝ }
     ensures { λ r. ⌜ Printed (codesText flats (now (codes .entry))) (now (out .entry)) r (now (out .exit)) ⌝ }
 {
-    match candidates(codes, out) {
+    match candidates_strict(codes, out) {
         Output::Written(count) => {
             out[count] = b'.';
             out[count + 1] = b'\n';
             count + 2
         }
-        // Never, since there is room.
-        Output::Refused(_) => 0,
+        // A code above 127, since there is room for all candidates.
+        Output::Refused(_) => reply_bad(out),
     }
+}
+
+fn reply_bad(out: &mut [u8]) -> usize
+    requires { ⌜ mostPrinted ≤ length (now out) ⌝ }
+    ensures { λ r. ⌜ Printed badText (now (out .entry)) r (now (out .exit)) ⌝ }
+{
+    out[0] = b'?';
+    out[1] = b'\n';
+    2
 }

@@ -10,6 +10,7 @@ use Rattle.hemotusap.proofs.symbols.hemotusap_suffix.Reads as suffix
 use Rattle.hemotusap.proofs.symbols.hemotusap_listing.Reads as listing
 use Rattle.hemotusap.proofs.symbols.hemotusap_tones.Reads as tones
 use Rattle.hemotusap.proofs.symbols.hemotusap_candidates.Reads as candidates
+use Rattle.hemotusap.proofs.symbols.hemotusap_candidates_strict.Reads as candidates-strict
 use Rattle.hemotusap.proofs.symbols.hemotusap_candidate_count.Reads as candidate-count
 use Rattle.hemotusap.proofs.symbols.hemotusap_candidate.Reads as candidate
 use Rattle.hemotusap.proofs.scores.hemotusap_harmony.Reads as harmony
@@ -32,6 +33,9 @@ suffix-decides κs a r r′ s s′ = both
 
 pub candidates-decides : DecidesWith candidates.Post (λ κs s. now (s .1 .0))
 candidates-decides κs a r r′ s s′ = both
+
+pub candidates-strict-decides : DecidesWith candidates-strict.Post (λ κs s. now (s .1 .0))
+candidates-strict-decides κs a r r′ s s′ = both
 
 pub candidate-count-decides : Decides candidate-count.Post
 candidate-count-decides κs a r r′ s s′ = determined

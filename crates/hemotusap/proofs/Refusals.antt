@@ -1,11 +1,13 @@
--- What a host reads from a refusal, as the header's two functions read it.
---     numberIn             a size below 256 is the number itself, of another it is the quotient by 256
---     IsPlace              a size below 256 tells no place, another the remainder
+-- What a host reads from a refusal, as the header's functions read it.
+--     Reading              how number and place are read from a size
+--     byQuotient           a size below 256 is the number itself and tells no place; of another the two are quotient and remainder
+--     strictly             a size below 256 × 11 is the number itself and tells no place; another is 11's, and what it is above tells the place
 --     IsRead               minus a size from which a refusal's number is read, and the place if it tells one
 --     refusal-read         so it is with each refusal whose place is below 256
 --     voicing-places       a voicing's refusal tells no place, or one below 16
 --     voicing-read         so number and place are read from what a call for a voicing gives back, in every room
-use Rattle.answer.proofs.Kit.{_≡_, refl, Bool, true, false, cond, _&&_, List, ℕ, _+_, _*_, _/_, _%_, _≤_, _<_, arith, leb, ltb, length, lt-ltb, le-ltb, ℤ, pos, negℤ}
+--     strict-read          and, strictly, from what the strict entry gives back, in every room, as long as 64 bits hold the formula at each place of the list
+use Rattle.answer.proofs.Kit.{_≡_, refl, Bool, true, false, cond, _&&_, List, ⊎-elim, ℕ, _+_, _-_, _*_, _/_, _%_, _^_, _≤_, _<_, arith, leb, ltb, length, lt-ltb, le-ltb, ℤ, pos, negℤ}
 use Rattle.answer.specs.Refusals.{toldOf}
 use Rattle.answer.proofs.First.{first-less}
 use Rattle.answer.specs.Replies.{Reply, refuse, text, unlessRefused, fits, outputOf}
@@ -16,35 +18,50 @@ use Rattle.answer.specs.declared.refusal.Checked.the-variants as Checked
 use Rattle.answer.specs.declared.refusal.Place.{Place}
 use Rattle.answer.specs.declared.refusal.Place.the-variants as Place
 use Rattle.answer.specs.declared.refusal.Refusal.{Refusal}
-use Rattle.answer.specs.declared.refusal.Refusal.the-variants.{NotASet, BadClass, TooManyPairs, BadPairClass, BadPairInterval, BadNote, BadMove, NoRoom}
+use Rattle.answer.specs.declared.refusal.Refusal.the-variants.{NotASet, BadClass, TooManyPairs, BadPairClass, BadPairInterval, BadNote, BadMove, NotAKey, NoRoom}
 use Rattle.intervals.specs.Bass.{isBass}
+use Rattle.notes.specs.declared.note.Note.{Note}
+use Rattle.candidates.specs.Candidates.{candidatesOf}
+use Rattle.candidates.specs.Strict.{strictReply}
+use Rattle.candidates.proofs.FirstAbove.{either, strict-same, strict-refused}
 use Rattle.pool.specs.declared.pool.Tone.{Tone}
 use Rattle.pool.specs.Pool.{tonesOf}
 use Rattle.pool.specs.Checks.{pairsChecked}
 use Rattle.pool.proofs.FirstBad.{FirstBad, SaysWhy, Says, checked-says}
 use Rattle.voicings.specs.declared.voicing.Chord.{Chord}
 use Rattle.voicings.specs.Voicing.{voicingOf, voicingReply}
-use Rattle.hemotusap.specs.Host.{minus, sizeOf, refusalNumber, outputNumber}
+use Rattle.hemotusap.specs.Host.{minus, sizeOf, refusalNumber}
 use Rattle.hemotusap.proofs.Wide.{as-written}
 
-abbrev pub numberIn : ℕ → ℕ
-numberIn size = cond (ltb size 256) size (size / 256)
+pub record Reading : Type 1 where
+  pub number : ℕ → ℕ
+  pub Tells : Place → ℕ → Type 0
 
-abbrev pub IsPlace : Place → ℕ → Type 0
-IsPlace Place.None size = size < 256
-IsPlace (Place.At place) size = (256 ≤ size) × (size % 256 ≡ place)
+abbrev pub quotientPlace : Place → ℕ → Type 0
+quotientPlace Place.None size = size < 256
+quotientPlace (Place.At place) size = (256 ≤ size) × (size % 256 ≡ place)
+
+abbrev pub byQuotient : Reading
+byQuotient = record { number = λ size. cond (ltb size 256) size (size / 256); Tells = quotientPlace }
+
+abbrev pub strictPlace : Place → ℕ → Type 0
+strictPlace Place.None size = size < 256 * 11
+strictPlace (Place.At place) size = (256 * 11 ≤ size) × (size - 256 * 11 ≡ place)
+
+abbrev pub strictly : Reading
+strictly = record { number = λ size. cond (ltb size (256 * 11)) size 11; Tells = strictPlace }
 
 abbrev pub IsBelow : ℕ → Place → Type 0
 IsBelow n Place.None = Unit {0}
 IsBelow n (Place.At place) = place < n
 
-pub record IsRead (number : ℕ) (place : Place) (given : ℤ) : Type 0 where
+pub record IsRead (by : Reading) (number : ℕ) (place : Place) (given : ℤ) : Type 0 where
   pub size : ℕ
   pub minus-size : given ≡ negℤ (pos size)
-  pub its-number : numberIn size ≡ number
-  pub its-place : IsPlace place size
+  pub its-number : by .number size ≡ number
+  pub its-place : by .Tells place size
 
-size-read : (number : ℕ) (place : Place) → 0 < number → number < 256 → IsBelow 256 place → IsRead number place (minus (sizeOf number place))
+size-read : (number : ℕ) (place : Place) → 0 < number → number < 256 → IsBelow 256 place → IsRead byQuotient number place (minus (sizeOf number place))
 size-read number Place.None some small h = record { size = number; minus-size = as-written number (omega arith); its-number = rw (lt-ltb number 256 small) refl; its-place = small }
 size-read number (Place.At place) some small h =
     let large : 256 ≤ 256 * number + place = omega arith in
@@ -56,7 +73,7 @@ size-read number (Place.At place) some small h =
       its-place = (large, omega arith);
     }
 
-pub refusal-read : (why : Refusal) → IsBelow 256 (toldOf why .place) → IsRead (toldOf why .number) (toldOf why .place) (refusalNumber why)
+pub refusal-read : (why : Refusal) → IsBelow 256 (toldOf why .place) → IsRead byQuotient (toldOf why .number) (toldOf why .place) (refusalNumber why)
 refusal-read why h = size-read (toldOf why .number) (toldOf why .place) (in-a-byte why .0) (in-a-byte why .1) h
   where
     in-a-byte : (why : Refusal) → (0 < toldOf why .number) × (toldOf why .number < 256)
@@ -67,6 +84,7 @@ refusal-read why h = size-read (toldOf why .number) (toldOf why .place) (in-a-by
     in-a-byte (BadPairInterval place) = (omega arith, omega arith)
     in-a-byte BadNote = (omega arith, omega arith)
     in-a-byte BadMove = (omega arith, omega arith)
+    in-a-byte (NotAKey place) = (omega arith, omega arith)
     in-a-byte NoRoom = (omega arith, omega arith)
 
 -- a reply's refusal tells no place, or one below a bound
@@ -93,6 +111,7 @@ module _ (lowest highest : ℕ) (chord : Chord) (classes intervals : List ℕ) w
       by-why BadClass h = absurd h
       by-why BadNote h = absurd h
       by-why BadMove h = absurd h
+      by-why (NotAKey place) h = absurd h
       by-why NoRoom h = absurd h
 
       by-tests : (good : Bool) (pairs : Checked) → Says (tonesOf classes intervals) pairs
@@ -102,23 +121,46 @@ module _ (lowest highest : ℕ) (chord : Chord) (classes intervals : List ℕ) w
       by-tests true Checked.Passed h = tt
 
 -- an output's refusal is read from the number that a host gets
-abbrev pub RefusalRead : Output → Type 0
-RefusalRead (Output.Written n) = Unit {0}
-RefusalRead (Output.Refused why) = IsRead (toldOf why .number) (toldOf why .place) (outputNumber (Output.Refused why))
+abbrev pub RefusalRead : Reading → Output → Type 0
+RefusalRead by (Output.Written n) = Unit {0}
+RefusalRead by (Output.Refused why) = IsRead by (toldOf why .number) (toldOf why .place) (refusalNumber why)
+
+-- of a text only the want of room is refused
+text-read : (by : Reading) (t room : List ℕ) → IsRead by 7 Place.None (refusalNumber NoRoom) → RefusalRead by (outputOf (text t) room)
+unfolding outputOf
+text-read by t room no-room = by-room (fits t room)
+  where
+    by-room : (b : Bool) → RefusalRead by (cond b (Output.Written (length t)) (Output.Refused NoRoom))
+    by-room true = tt
+    by-room false = no-room
 
 -- where a reply's places are below 16
-output-read : (reply : Reply) (room : List ℕ) → TellsBelow 16 reply → RefusalRead (outputOf reply room)
+output-read : (reply : Reply) (room : List ℕ) → TellsBelow 16 reply → RefusalRead byQuotient (outputOf reply room)
 unfolding outputOf
 output-read (refuse why) room h = refusal-read why (by-place (toldOf why .place) h)
   where
     by-place : (place : Place) → IsBelow 16 place → IsBelow 256 place
     by-place Place.None h = tt
     by-place (Place.At place) h = omega arith
-output-read (text t) room h = by-room (fits t room)
-  where
-    by-room : (b : Bool) → RefusalRead (cond b (Output.Written (length t)) (Output.Refused NoRoom))
-    by-room true = tt
-    by-room false = refusal-read NoRoom tt
+output-read (text t) room h = text-read byQuotient t room (refusal-read NoRoom tt)
 
-pub voicing-read : (lowest highest : ℕ) (chord : Chord) (classes intervals room : List ℕ) → RefusalRead (outputOf (voicingReply lowest highest chord classes intervals) room)
+pub voicing-read : (lowest highest : ℕ) (chord : Chord) (classes intervals room : List ℕ) → RefusalRead byQuotient (outputOf (voicingReply lowest highest chord classes intervals) room)
 voicing-read lowest highest chord classes intervals room = output-read _ room (voicing-places lowest highest chord classes intervals)
+
+key-read : (place : ℕ) → 256 * 11 + place ≤ 2 ^ 63 → IsRead strictly 11 (Place.At place) (refusalNumber (NotAKey place))
+key-read place h =
+    let large : 256 * 11 ≤ 256 * 11 + place = omega arith in
+    record {
+      size = 256 * 11 + place;
+      minus-size = as-written (256 * 11 + place) h;
+      its-number = rw (le-ltb (256 * 11 + place) (256 * 11) large) refl;
+      its-place = (large, omega arith);
+    }
+
+pub strict-read : (table : List Note) (codes room : List ℕ) → 256 * 11 + length codes ≤ 2 ^ 63 → RefusalRead strictly (outputOf (strictReply table codes) room)
+unfolding outputOf
+strict-read table codes room h =
+    ⊎-elim
+    (λ keys. rw (strict-same codes table keys) (text-read strictly (candidatesOf table codes) room (record { size = 7; minus-size = refl; its-number = refl; its-place = omega arith })))
+    (λ above. rw (strict-refused codes table above) (key-read (above .place) (omega (arith, first-less (above .first)))))
+    (either codes)

@@ -12,6 +12,8 @@ use Rattle.spelling.proofs.Room.{tones-room}
 use Rattle.candidates.specs.Candidates.{flats, candidatesOf}
 use Rattle.names.proofs.Named.{flats-brief}
 use Rattle.candidates.proofs.Listed.{candidates-length}
+use Rattle.candidates.specs.Strict.{strictReply}
+use Rattle.candidates.proofs.FirstAbove.{strict-room}
 use Rattle.notes.specs.declared.note.Note.{Note}
 use Rattle.notes.specs.NoteText.{signs, noteReply}
 use Rattle.notes.proofs.Names.{note-text-room}
@@ -39,6 +41,9 @@ tones-enough root set = roomy tonesRoom (tonesReply spelledBy root set) (tones-r
 
 pub candidates-enough : (codes : List ℕ) → Enough candidatesRoom (text (candidatesOf flats codes))
 candidates-enough codes = roomy candidatesRoom (text (candidatesOf flats codes)) (candidates-length flats flats-brief codes)
+
+pub candidates-strict-enough : (codes : List ℕ) → Enough candidatesRoom (strictReply flats codes)
+candidates-strict-enough codes = roomy candidatesRoom (strictReply flats codes) (strict-room codes flats flats-brief)
 
 pub note-text-enough : (note : Note) → Enough noteTextRoom (noteReply signs note)
 note-text-enough note = roomy noteTextRoom (noteReply signs note) (note-text-room note)

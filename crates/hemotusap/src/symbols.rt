@@ -4,6 +4,7 @@ use crate::host::written;
 use candidates::lines::candidate_count;
 use candidates::lines::candidates;
 use candidates::numbered::candidate;
+use candidates::strict::candidates_strict;
 use inference::normalize::suffix;
 use listing::search::listing;
 use spelling::tones::tones;
@@ -14,6 +15,7 @@ ghost use Rattle.intervals.specs.Sets.{classCount};
 ghost use Rattle.rules.specs.Suffix.{suffixReply};
 ghost use Rattle.candidates.specs.Keys.{classSet};
 ghost use Rattle.candidates.specs.Candidates.{flats, candidateAt, candidatesOf};
+ghost use Rattle.candidates.specs.Strict.{strictReply};
 ghost use Rattle.listing.specs.Listing.{listingOf};
 ghost use Rattle.spelling.specs.Tones.{spelledBy, tonesReply};
 ghost use Rattle.hemotusap.specs.Host.{candidateNumber, HostAnswered};
@@ -44,6 +46,13 @@ pub extern "C" fn hemotusap_candidates(codes: &[u8], out: &mut [u8]) -> i64
     ensures { λ r. ⌜ HostAnswered (text (candidatesOf flats (now (codes .entry)))) (now (out .entry)) r (now (out .exit)) ⌝ }
 {
     written(candidates(codes, out))
+}
+
+#[no_mangle]
+pub extern "C" fn hemotusap_candidates_strict(codes: &[u8], out: &mut [u8]) -> i64
+    ensures { λ r. ⌜ HostAnswered (strictReply flats (now (codes .entry))) (now (out .entry)) r (now (out .exit)) ⌝ }
+{
+    written(candidates_strict(codes, out))
 }
 
 #[no_mangle]

@@ -4,15 +4,14 @@
 --     Says            what each outcome of the check says of the pairs
 --     checked-says    so it is with `pairsChecked`
 --     said-only       and what a check that says so comes to is that outcome: each is given exactly in its case
-use mathlib.Core.Option.{Option, none, some, Option·elim}
 use Rattle.answer.proofs.Kit.{_≡_, refl, sym, ap, _∙_, Bool, true, false, cond, _&&_, List, List·Memᴰ, ℕ, _≤_, _<_, leb, leb→le, length, lt-leb, le-leb, leb-false, not-false, not-true}
 use Rattle.answer.proofs.Tests.{left, right, said}
-use Rattle.answer.specs.First.{firstWhere}
-use Rattle.answer.proofs.First.{IsFirst, first-as, Passes, Fails, Finds, first-is, first-found, none-found}
+use Rattle.answer.proofs.First.{IsFirst, first-as, Passes, Fails}
+use Rattle.answer.proofs.FirstRefused.{refused-says, first-refused, none-refused}
 use Rattle.answer.specs.declared.refusal.Checked.{Checked}
 use Rattle.answer.specs.declared.refusal.Checked.the-variants.{Passed, Refused}
 use Rattle.answer.specs.declared.refusal.Refusal.{Refusal}
-use Rattle.answer.specs.declared.refusal.Refusal.the-variants.{NotASet, BadClass, TooManyPairs, BadPairClass, BadPairInterval, BadNote, BadMove, NoRoom}
+use Rattle.answer.specs.declared.refusal.Refusal.the-variants.{NotASet, BadClass, TooManyPairs, BadPairClass, BadPairInterval, BadNote, BadMove, NotAKey, NoRoom}
 use Rattle.pool.specs.declared.pool.Tone.{Tone}
 use Rattle.pool.specs.Checks.{isBad, badPair, firstChecked, pairsChecked}
 
@@ -40,6 +39,7 @@ SaysWhy tones NotASet = ⊥
 SaysWhy tones BadClass = ⊥
 SaysWhy tones BadNote = ⊥
 SaysWhy tones BadMove = ⊥
+SaysWhy tones (NotAKey place) = ⊥
 SaysWhy tones NoRoom = ⊥
 
 abbrev pub Says : List Tone → Checked → Type 0
@@ -65,12 +65,7 @@ module _ (tones : List Tone) (few : length tones ≤ 16) where
       by-class false e = record { few = few; pair = t; first = first-as h (leb-false _ _ e) good }
 
   first-says : Says tones (firstChecked tones)
-  unfolding firstChecked Option·elim
-  first-says = by-case (firstWhere isBad tones) (first-is isBad tones)
-    where
-      by-case : (o : Option (ℕ × Tone)) → Finds isBad tones o → Says tones (Option·elim o Passed (λ (f : ℕ × Tone). Refused (badPair (f .0) (f .1))))
-      by-case none h = (few, λ t m. good t (h t m))
-      by-case (some f) h = is-bad (f .0) (f .1) h
+  first-says = refused-says isBad badPair (Says tones) tones (λ h. (few, λ t m. good t (h t m))) is-bad
 
 pub checked-says : (tones : List Tone) → Says tones (pairsChecked tones)
 unfolding pairsChecked
@@ -80,23 +75,28 @@ checked-says tones = by-count (leb (length tones) 16) refl
     by-count true e = first-says tones (leb→le _ _ (said _ e))
     by-count false e = leb-false _ _ e
 
--- the first bad pair is the one that the test finds
-is-first : (Bad : Tone → Type 0) (tones : List Tone) (place : ℕ) → ((t : Tone) → Bad t → isBad t ≡ true) → (h : FirstBad Bad tones place) → firstWhere isBad tones ≡ some (place, h .pair)
-is-first Bad tones place bad h = first-found isBad tones place (h .pair) (first-as (h .first) (bad (h .pair) (h .first .found)) not-bad)
+-- a bad pair's refusal, where it is the first
+module _ (Bad : Tone → Type 0) (tones : List Tone) (place : ℕ) (bad : (t : Tone) → Bad t → isBad t ≡ true) (h : FirstBad Bad tones place) where
+  is-refused : pairsChecked tones ≡ Refused (badPair place (h .pair))
+  unfolding pairsChecked
+  is-refused =
+      rw (le-leb _ _ (h .few)) (first-refused isBad badPair tones place (h .pair) (first-as (h .first) (bad (h .pair) (h .first .found)) not-bad))
 
 said-why : (tones : List Tone) (why : Refusal) → SaysWhy tones why → pairsChecked tones ≡ Refused why
-unfolding pairsChecked firstChecked Option·elim
+unfolding pairsChecked
 said-why tones TooManyPairs h = rw (lt-leb _ _ h)
-said-why tones (BadPairClass place) h = rw (le-leb _ _ (h .few), is-first ClassAbove tones place (λ t above. rw (lt-leb _ _ above)) h, lt-leb _ _ (h .first .found))
+said-why tones (BadPairClass place) h =
+    is-refused ClassAbove tones place (λ t above. rw (lt-leb _ _ above)) h ∙ rw (lt-leb _ _ (h .first .found))
 said-why tones (BadPairInterval place) h =
-    rw (le-leb _ _ (h .few), is-first IntervalAbove tones place (λ t above. rw (le-leb _ _ (above .0), lt-leb _ _ (above .1))) h, le-leb _ _ (h .first .found .0))
+    is-refused IntervalAbove tones place (λ t above. rw (le-leb _ _ (above .0), lt-leb _ _ (above .1))) h ∙ rw (le-leb _ _ (h .first .found .0))
 said-why tones NotASet h = absurd h
 said-why tones BadClass h = absurd h
 said-why tones BadNote h = absurd h
 said-why tones BadMove h = absurd h
+said-why tones (NotAKey place) h = absurd h
 said-why tones NoRoom h = absurd h
 
 pub said-only : (tones : List Tone) (r : Checked) → Says tones r → pairsChecked tones ≡ r
-unfolding pairsChecked firstChecked Option·elim
-said-only tones Passed h = rw (le-leb _ _ (h .0), none-found isBad tones (λ t m. not-bad t (h .1 t m)))
+unfolding pairsChecked
+said-only tones Passed h = rw (le-leb _ _ (h .0)) (none-refused isBad badPair tones (λ t m. not-bad t (h .1 t m)))
 said-only tones (Refused why) h = said-why tones why h

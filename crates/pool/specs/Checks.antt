@@ -1,13 +1,12 @@
 -- Which pairs are refused: paper 01, "Numbers given back", and paper 02, Q-1.
 use mathlib.Core.Bool.{Bool, not, cond, _&&_}
 use mathlib.Core.List.{List}
-use mathlib.Core.Option.{Option·elim}
 use Prim.Native.Nat.{ℕ}
 use lib.Dec.{leb}
 use lib.ListN.{length}
-use Rattle.answer.specs.First.{firstWhere}
+use Rattle.answer.specs.First.{firstRefused}
 use Rattle.answer.specs.declared.refusal.Checked.{Checked}
-use Rattle.answer.specs.declared.refusal.Checked.the-variants.{Passed, Refused}
+use Rattle.answer.specs.declared.refusal.Checked.the-variants.{Refused}
 use Rattle.answer.specs.declared.refusal.Refusal.{Refusal}
 use Rattle.answer.specs.declared.refusal.Refusal.the-variants.{TooManyPairs, BadPairClass, BadPairInterval}
 use Rattle.pool.specs.declared.pool.Tone.{Tone}
@@ -21,8 +20,8 @@ abbrev pub badPair : ℕ → Tone → Refusal
 badPair place t = cond (leb (t .class) 11) (BadPairInterval place) (BadPairClass place)
 
 -- refusals 41 and 42: "The earliest bad pair counts"
-unfoldable pub firstChecked : List Tone → Checked
-firstChecked tones = Option·elim (firstWhere isBad tones) Passed (λ (found : ℕ × Tone). Refused (badPair (found .0) (found .1)))
+abbrev pub firstChecked : List Tone → Checked
+firstChecked tones = firstRefused isBad badPair tones
 
 -- refusal 3, "more than 16 pairs used", comes before them
 unfoldable pub pairsChecked : List Tone → Checked

@@ -8,6 +8,7 @@
 //     suffix ROOM SET                                note_text ROOM LETTER COUNT
 //     tones ROOM ROOT SET                            voicing ROOM ROOT BASS LEAD CLASSES INTERVALS
 //     listing ROOM TEXT                              harmony ROOM ROOT BASS SET
+//     candidates_strict ROOM CODES
 mod line;
 mod print;
 
@@ -27,6 +28,7 @@ use hemotusap::scores::hemotusap_harmony;
 use hemotusap::symbols::hemotusap_candidate;
 use hemotusap::symbols::hemotusap_candidate_count;
 use hemotusap::symbols::hemotusap_candidates;
+use hemotusap::symbols::hemotusap_candidates_strict;
 use hemotusap::symbols::hemotusap_listing;
 use hemotusap::symbols::hemotusap_suffix;
 use hemotusap::symbols::hemotusap_tones;
@@ -78,6 +80,12 @@ fn candidates(line: &[u8], out: &mut [u8]) -> i64 {
     hemotusap_candidates(&codes[..count], out)
 }
 
+fn candidates_strict(line: &[u8], out: &mut [u8]) -> i64 {
+    let mut codes = [0u8; RANGE];
+    let count = bytes(line, 2, &mut codes);
+    hemotusap_candidates_strict(&codes[..count], out)
+}
+
 fn candidate_count(line: &[u8]) -> i64 {
     let mut codes = [0u8; RANGE];
     let count = bytes(line, 1, &mut codes);
@@ -122,6 +130,9 @@ fn writing(line: &[u8], out: &mut [u8]) -> i64 {
     }
     if asks(line, b"candidates") {
         return candidates(line, out);
+    }
+    if asks(line, b"candidates_strict") {
+        return candidates_strict(line, out);
     }
     if asks(line, b"tones") {
         return hemotusap_tones(number(line, 2), number(line, 3), out);

@@ -1,10 +1,8 @@
 -- `pool::checks::check_each` meets its contract. The loop's invariant: the first bad one of the pairs that are left is the first of all.
-use mathlib.Core.Option.{Option, some, Option·elim}
 use Rattle.answer.proofs.Kit.{_≡_, sym, ap, ap₂, _∙_, true, false, List, _∷_, ℕ, _+_, _-_, _≤_, _<_, arith, length, take, getD, slice, now, lt-leb, le-leb}
-use Rattle.answer.specs.First.{firstWhere}
-use Rattle.answer.proofs.First.{foundFrom, here, onward, from-0, at-end}
+use Rattle.answer.proofs.FirstRefused.{refusedFrom, here, onward, from-0, at-end}
 use Rattle.answer.specs.declared.refusal.Checked.{Checked}
-use Rattle.answer.specs.declared.refusal.Checked.the-variants.{Passed, Refused}
+use Rattle.answer.specs.declared.refusal.Checked.the-variants.{Refused}
 use Rattle.answer.specs.declared.refusal.Refusal.the-variants.{BadPairClass, BadPairInterval}
 use Rattle.pool.specs.declared.pool.Tone.{Tone}
 use Rattle.pool.specs.Pool.{toneOf, tonesOf}
@@ -18,14 +16,10 @@ pairsFrom i n classes intervals = tonesOf (slice i n classes) (slice i n interva
 
 abbrev Inv-loop : tie.InvT-loop
 Inv-loop classes intervals count i₀ i =
-    (i ≤ count) × (foundFrom isBad i (pairsFrom i count classes intervals) ≡ firstWhere isBad (tonesOf (take count classes) (take count intervals)))
+    (i ≤ count) × (refusedFrom isBad badPair i (pairsFrom i count classes intervals) ≡ firstChecked (tonesOf (take count classes) (take count intervals)))
 
 abbrev μ-loop : tie.MeasureT-loop
 μ-loop classes intervals count i₀ i = count - i
-
--- what a pair that was found is refused with
-abbrev told : Option (ℕ × Tone) → Checked
-told found = Option·elim found Passed (λ (f : ℕ × Tone). Refused (badPair (f .0) (f .1)))
 
 -- at the place of a loop that is not at its end
 module _ (classes intervals : List ℕ) (i n : ℕ) (h : i < n) (hc : n ≤ length classes) (hi : n ≤ length intervals) where
@@ -36,33 +30,32 @@ module _ (classes intervals : List ℕ) (i n : ℕ) (h : i < n) (hc : n ≤ leng
   unfolding tonesOf
   turn = ap₂ tonesOf (next classes i n 0 h hc) (next intervals i n 0 h hi)
 
-  stops : isBad pair ≡ true → foundFrom isBad i (pairsFrom i n classes intervals) ≡ some (i, pair)
-  stops bad = ap (foundFrom isBad i) turn ∙ here isBad i pair _ bad
+  abbrev left : Checked
+  left = refusedFrom isBad badPair i (pairsFrom i n classes intervals)
 
-  goes-on : isBad pair ≡ false → foundFrom isBad i (pairsFrom i n classes intervals) ≡ foundFrom isBad (i + 1) (pairsFrom (i + 1) n classes intervals)
-  goes-on good = ap (foundFrom isBad i) turn ∙ onward isBad i pair _ good
+  stops : isBad pair ≡ true → left ≡ Refused (badPair i pair)
+  stops bad = ap (refusedFrom isBad badPair i) turn ∙ here isBad badPair i pair _ bad
 
-  bad-class : 11 < getD classes i 0 → told (foundFrom isBad i (pairsFrom i n classes intervals)) ≡ Refused (BadPairClass i)
-  unfolding Option·elim
-  bad-class above = ap told (stops (rw (lt-leb _ _ above))) ∙ rw (lt-leb _ _ above)
+  goes-on : isBad pair ≡ false → left ≡ refusedFrom isBad badPair (i + 1) (pairsFrom (i + 1) n classes intervals)
+  goes-on good = ap (refusedFrom isBad badPair i) turn ∙ onward isBad badPair i pair _ good
 
-  bad-interval : getD classes i 0 ≤ 11 → 22 < getD intervals i 0 → told (foundFrom isBad i (pairsFrom i n classes intervals)) ≡ Refused (BadPairInterval i)
-  unfolding Option·elim
-  bad-interval class above = ap told (stops (rw (le-leb _ _ class, lt-leb _ _ above))) ∙ rw (le-leb _ _ class)
+  bad-class : 11 < getD classes i 0 → left ≡ Refused (BadPairClass i)
+  bad-class above = stops (rw (lt-leb _ _ above)) ∙ rw (lt-leb _ _ above)
+
+  bad-interval : getD classes i 0 ≤ 11 → 22 < getD intervals i 0 → left ≡ Refused (BadPairInterval i)
+  bad-interval class above = stops (rw (le-leb _ _ class, lt-leb _ _ above)) ∙ rw (le-leb _ _ class)
 
 returns : tie.Need-returns Inv-loop μ-loop
-unfolding firstChecked
 returns c =
     let l = c .before .before .before in
     let s = l .before in
-    sym (bad-class (now (s .args .classes)) (now (s .args .intervals)) (l .loop .i) (s .args .count) (omega arith) (s .pre .0) (s .pre .1) (c .if1 .taken)) ∙ ap told (l .loop .inv .1)
+    sym (bad-class (now (s .args .classes)) (now (s .args .intervals)) (l .loop .i) (s .args .count) (omega arith) (s .pre .0) (s .pre .1) (c .if1 .taken)) ∙ l .loop .inv .1
 
 returns-2 : tie.Need-returns-2 Inv-loop μ-loop
-unfolding firstChecked
 returns-2 c =
     let l = c .before .before .before .before .before in
     let s = l .before in
-    sym (bad-interval (now (s .args .classes)) (now (s .args .intervals)) (l .loop .i) (s .args .count) (omega arith) (s .pre .0) (s .pre .1) (c .before .before .if1 .left) (c .if2 .taken)) ∙ ap told (l .loop .inv .1)
+    sym (bad-interval (now (s .args .classes)) (now (s .args .intervals)) (l .loop .i) (s .args .count) (omega arith) (s .pre .0) (s .pre .1) (c .before .before .if1 .left) (c .if2 .taken)) ∙ l .loop .inv .1
 
 loop-again : tie.Need-loop-again Inv-loop μ-loop
 loop-again c =
@@ -75,20 +68,20 @@ loop-again c =
     )
 
 returns-3 : tie.Need-returns-3 Inv-loop μ-loop
-unfolding tonesOf firstChecked Option·elim
+unfolding tonesOf
 returns-3 c =
     let l = c .before .loop in
     let s = c .before .before in
-    ap told (sym (at-end isBad (l .i)))
-    ∙ ap (λ (x : List ℕ). told (foundFrom isBad (l .i) (tonesOf x (slice (l .i) (s .args .count) (now (s .args .intervals))))))
+    sym (at-end isBad badPair (l .i))
+    ∙ ap (λ (x : List ℕ). refusedFrom isBad badPair (l .i) (tonesOf x (slice (l .i) (s .args .count) (now (s .args .intervals)))))
     (sym (none (now (s .args .classes)) (l .i) (s .args .count) (l .inv .0) (c .loop-test .left)))
-    ∙ ap told (l .inv .1)
+    ∙ l .inv .1
 
 pub check-each-spec : {M : Type 1} → statement M
 check-each-spec = tie.close (tie.spec
     Inv-loop
     μ-loop
-    (λ c. (omega arith, from-0 isBad _))
+    (λ c. (omega arith, from-0 isBad badPair _))
     (λ c. omega arith)
     returns
     (λ c. omega arith)

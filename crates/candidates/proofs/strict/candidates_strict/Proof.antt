@@ -1,0 +1,29 @@
+-- `candidates::strict::candidates_strict` meets its contract: by what the check says.
+use Rattle.answer.proofs.Kit.{sym, subst, _∙_, now, needs}
+use Rattle.answer.specs.Replies.{Reply, Answered}
+use Rattle.answer.proofs.Rooms.{refused-by}
+use Rattle.names.specs.Names.{flats}
+use Rattle.candidates.proofs.FirstAbove.{replied}
+use Rattle.candidates.proofs.strict.candidates_strict.Statement.{statement}
+use Rattle.candidates.proofs.strict.candidates_strict.Tie as tie
+
+returns : tie.Need-returns
+returns c =
+    let checked = c .before .before .before in
+    refused-by _ _ _ (replied _ flats _ (sym (checked .check-keys .ensures) ∙ c .before .why .given .1))
+
+returns-2 : tie.Need-returns-2
+returns-2 c =
+    let g = c .before .before in
+    let told = g .before .before in
+    let checked = told .before .before in
+    let s = checked .before .before .before in
+    let reply = sym (replied _ flats _ (sym (checked .check-keys .ensures) ∙ told .enum-told .given .1)) in
+    subst (λ (x : Reply). Answered x (now (s .args .out)) (g .candidates .result) (g .candidates .last .1 .0)) reply (g .candidates .ensures)
+
+pub candidates-strict-spec : {M : Type 1} → statement M
+candidates-strict-spec = tie.close (tie.spec
+    (λ c κs. search needs) (λ c. search needs) (λ c. search needs) (λ c κs. search needs)
+    returns
+    (λ c. search needs)
+    returns-2)

@@ -1,0 +1,35 @@
+// The candidates of keys alone, for hardware: a list with a code that MIDI 1.0 does not allow is refused.
+use crate::lines::candidates;
+use answer::output::Output;
+use answer::refusal::Checked;
+use answer::refusal::Refusal;
+ghost use mathlib.Core.Path.{_≡_};
+ghost use Rattle.answer.specs.Replies.{Answered};
+ghost use Rattle.names.specs.Names.{flats};
+ghost use Rattle.candidates.specs.Strict.{keysChecked, strictReply};
+
+const LAST_KEY: u8 = 127;
+
+// The first code that is no key is refused, with its position.
+pub fn check_keys(codes: &[u8]) -> Checked
+    ensures { λ r. ⌜ r ≡ keysChecked (now (codes .entry)) ⌝ }
+{
+    let mut i = 0;
+    while i < codes.len() {
+        if codes[i] > LAST_KEY {
+            return Checked::Refused(Refusal::NotAKey(i));
+        }
+        i += 1;
+    }
+    Checked::Passed
+}
+
+// The candidates of a list of keys, a line each, where every code is one.
+pub fn candidates_strict(codes: &[u8], out: &mut [u8]) -> Output
+    ensures { λ r. ⌜ Answered (strictReply flats (now (codes .entry))) (now (out .entry)) r (now (out .exit)) ⌝ }
+{
+    match check_keys(codes) {
+        Checked::Refused(why) => Output::Refused(why),
+        Checked::Passed => candidates(codes, out),
+    }
+}
