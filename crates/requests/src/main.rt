@@ -74,16 +74,13 @@ fn voicing(line: &[u8], out: &mut [u8]) -> i64 {
     )
 }
 
-fn candidates(line: &[u8], out: &mut [u8]) -> i64 {
+fn candidates(line: &[u8], out: &mut [u8], strict: bool) -> i64 {
     let mut codes = [0u8; RANGE];
     let count = bytes(line, 2, &mut codes);
+    if strict {
+        return hemotusap_candidates_strict(&codes[..count], out);
+    }
     hemotusap_candidates(&codes[..count], out)
-}
-
-fn candidates_strict(line: &[u8], out: &mut [u8]) -> i64 {
-    let mut codes = [0u8; RANGE];
-    let count = bytes(line, 2, &mut codes);
-    hemotusap_candidates_strict(&codes[..count], out)
 }
 
 fn candidate_count(line: &[u8]) -> i64 {
@@ -129,10 +126,10 @@ fn writing(line: &[u8], out: &mut [u8]) -> i64 {
         return hemotusap_suffix(number(line, 2), out);
     }
     if asks(line, b"candidates") {
-        return candidates(line, out);
+        return candidates(line, out, false);
     }
     if asks(line, b"candidates_strict") {
-        return candidates_strict(line, out);
+        return candidates(line, out, true);
     }
     if asks(line, b"tones") {
         return hemotusap_tones(number(line, 2), number(line, 3), out);
