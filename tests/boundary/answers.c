@@ -6,11 +6,14 @@ struct bad_byte {
     size_t place;
 };
 
+int64_t placed_answer(int64_t number, size_t place)
+{
+    return -(256 * number + (int64_t)place);
+}
+
 int64_t refusal_answer(const struct refusal *refusal, size_t place)
 {
-    if (refusal->input == NO_INPUT)
-        return -refusal->number;
-    return -(256 * refusal->number + (int64_t)place);
+    return refusal->input == NO_INPUT ? -refusal->number : placed_answer(refusal->number, place);
 }
 
 static bool is_bad(const struct call *call, int input, size_t place)

@@ -4,7 +4,10 @@
 
 #include "functions.h"
 
-/* What a host gets of a refusal, with this place if it tells one. */
+/* What a host gets of a refusal that tells a place. */
+int64_t placed_answer(int64_t number, size_t place);
+
+/* What it gets of any, with this place if it tells one. */
 int64_t refusal_answer(const struct refusal *refusal, size_t place);
 
 /* Which of the function's refusals a negative answer is; MOST_REFUSALS: none that may come. Where

@@ -2,6 +2,7 @@
 
 #include <string.h>
 
+#include "answers.h"
 #include "draw.h"
 #include "length.h"
 #include "voicings.h"
@@ -11,11 +12,11 @@ enum { BYTES = 256, HIGHEST = BYTES - 1 };
 /* What of a pair is bad. */
 enum part { CLASS, INTERVAL, BOTH, PARTS };
 
-/* Number and place as a host gets them, but for the sign. A pair's class is looked at first. */
+/* As a host gets it, but for the sign. A pair's class is looked at first. */
 static int64_t told(enum part part, size_t place)
 {
     int64_t number = part == INTERVAL ? HEMOTUSAP_BAD_PAIR_INTERVAL : HEMOTUSAP_BAD_PAIR_CLASS;
-    return 256 * number + (int64_t)place;
+    return -placed_answer(number, place);
 }
 
 /* Every byte that is bad there, in a pool that is good but for it; by turns in no room, in too

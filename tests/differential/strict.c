@@ -2,6 +2,7 @@
 
 #include <string.h>
 
+#include "answers.h"
 #include "draw.h"
 #include "length.h"
 #include "lists.h"
@@ -9,10 +10,10 @@
 
 enum { FIRST_BAD = LAST_KEY + 1, SHORT = 8, LONGEST = 65536 + 16, MOST_ROOM = 1024 };
 
-/* Number and place as a host gets them, but for the sign. */
+/* As a host gets it, but for the sign. */
 static int64_t told(size_t place)
 {
-    return 256 * HEMOTUSAP_NOT_A_KEY + (int64_t)place;
+    return -placed_answer(HEMOTUSAP_NOT_A_KEY, place);
 }
 
 /* The length, where every code is a key. */

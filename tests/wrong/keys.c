@@ -1,6 +1,7 @@
 /* Faults of candidates_strict: another bad code told than the first, or that one told otherwise,
    bad codes taken or left out, a good one refused, and refusals out of their order. And one of
    candidates, which refuses no code. */
+#include "answers.h"
 #include "lent_call.h"
 #include "own_faults.h"
 
@@ -22,7 +23,7 @@ static size_t first_above(struct range list, uint8_t last)
 
 static int64_t told(size_t place)
 {
-    return -(256 * HEMOTUSAP_NOT_A_KEY + (int64_t)place);
+    return placed_answer(HEMOTUSAP_NOT_A_KEY, place);
 }
 
 /* What candidates answers of this list. */

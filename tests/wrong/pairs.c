@@ -1,16 +1,12 @@
 /* Faults of voicing: another bad pair told than the first, or that one told otherwise, good ones
    refused, and refusals out of their order. */
+#include "answers.h"
 #include "own_faults.h"
 
 enum { CLASSES, INTERVALS, LAST_CLASS = 11, LAST_INTERVAL = 22, SHORTEST = 2 };
 
 /* How a call is refused for what stands at a place; 0: not for that. */
 typedef int64_t refuser(const struct call *call, size_t place);
-
-static int64_t told(int64_t number, size_t place)
-{
-    return -(256 * number + (int64_t)place);
-}
 
 static bool is_above(struct range range, size_t place, uint8_t last)
 {
@@ -20,13 +16,13 @@ static bool is_above(struct range range, size_t place, uint8_t last)
 static int64_t for_class(const struct call *call, size_t place)
 {
     bool bad = is_above(call->inputs[CLASSES], place, LAST_CLASS);
-    return bad ? told(HEMOTUSAP_BAD_PAIR_CLASS, place) : 0;
+    return bad ? placed_answer(HEMOTUSAP_BAD_PAIR_CLASS, place) : 0;
 }
 
 static int64_t for_interval(const struct call *call, size_t place)
 {
     bool bad = is_above(call->inputs[INTERVALS], place, LAST_INTERVAL);
-    return bad ? told(HEMOTUSAP_BAD_PAIR_INTERVAL, place) : 0;
+    return bad ? placed_answer(HEMOTUSAP_BAD_PAIR_INTERVAL, place) : 0;
 }
 
 static int64_t for_pair(const struct call *call, size_t place)
@@ -138,13 +134,13 @@ static int64_t unused_pairs_too(const struct call *call, uint8_t *out)
 static int64_t class_11_refused(const struct call *call, uint8_t *out)
 {
     bool has = used(call) > 0 && call->inputs[CLASSES].bytes[0] == LAST_CLASS;
-    return refused_or_called(has ? told(HEMOTUSAP_BAD_PAIR_CLASS, 0) : 0, call, out);
+    return refused_or_called(has ? placed_answer(HEMOTUSAP_BAD_PAIR_CLASS, 0) : 0, call, out);
 }
 
 static int64_t interval_22_refused(const struct call *call, uint8_t *out)
 {
     bool has = used(call) > 0 && call->inputs[INTERVALS].bytes[0] == LAST_INTERVAL;
-    return refused_or_called(has ? told(HEMOTUSAP_BAD_PAIR_INTERVAL, 0) : 0, call, out);
+    return refused_or_called(has ? placed_answer(HEMOTUSAP_BAD_PAIR_INTERVAL, 0) : 0, call, out);
 }
 
 const struct own_fault faults_of_voicing[] = {
