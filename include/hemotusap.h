@@ -10,7 +10,7 @@
  * Accidentals: the count of sharps, -6..6; flats are negative, 0 is none.
  *
  * No call allocates, keeps state or calls back: any thread may make any call at any time. Of the
- * stack harmony takes at most 1.4 KiB, candidates and candidates_strict at most 0.8 KiB, and any
+ * stack harmony takes at most 1.4 KiB, the four calls that list candidates at most 0.8 KiB, and any
  * other call at most 0.6 KiB.
  */
 #ifndef HEMOTUSAP_H
@@ -35,8 +35,8 @@ enum hemotusap_refusal {
 
 /* The number of a refusal, and the place that it tells, counted from 0. Places of pairs are below
  * 256, since at most 16 are used, so quotient and remainder by 256 tell the two. Of an answer at or
- * above 0, which is none, the number is 0; where no place is told, the place is -1. What
- * hemotusap_candidates_strict answers is for the two functions behind these. */
+ * above 0, which is none, the number is 0; where no place is told, the place is -1. What the strict
+ * calls answer is for the two functions behind these. */
 static inline int64_t hemotusap_refusal_number(int64_t answer)
 {
     if (answer >= 0)
@@ -49,9 +49,9 @@ static inline int64_t hemotusap_refusal_place(int64_t answer)
     return answer > -256 ? -1 : -(answer % 256);
 }
 
-/* The same for what hemotusap_candidates_strict answers. A list of codes may be of any length, and
- * so may the place be above 255; but NOT_A_KEY is its one refusal that tells a place, so that what
- * is left without 256 * NOT_A_KEY is the place. */
+/* The same for what hemotusap_candidates_strict and hemotusap_candidates_strict_sharp answer. A
+ * list of codes may be of any length, and so may the place be above 255; but NOT_A_KEY is their one
+ * refusal that tells a place, so that what is left without 256 * NOT_A_KEY is the place. */
 static inline int64_t hemotusap_strict_refusal_number(int64_t answer)
 {
     if (answer >= 0)
@@ -177,6 +177,26 @@ int64_t hemotusap_candidates(const uint8_t *codes, size_t count, uint8_t *out, s
  * from 0 and below `count`: at place 300 the answer is -3116, which is -(256 * 11 + 300).
  * hemotusap_strict_refusal_number and hemotusap_strict_refusal_place take the two apart. */
 int64_t hemotusap_candidates_strict(const uint8_t *codes, size_t count, uint8_t *out, size_t room);
+
+/* Both again with the names C C# D D# E F F# G G# A A# B, for parts in sharp keys. The answer, the
+ * refusals and every other byte are those of the call without `_sharp`. */
+int64_t hemotusap_candidates_sharp(const uint8_t *codes, size_t count, uint8_t *out, size_t room);
+int64_t hemotusap_candidates_strict_sharp(const uint8_t *codes, size_t count, uint8_t *out,
+                                          size_t room);
+
+/* The line of a candidate, by its number from 0, in the names that a key calls for. The key is a
+ * count of sharps, or minus a count of flats: with `fifths` 1..7 the line is a part of the listing
+ * `sharp`, with -7..0 of `flat`, which are to be what hemotusap_candidates_sharp and
+ * hemotusap_candidates wrote for one list. Writes where the line begins in that listing to `start`,
+ * and how many bytes it has, its LF not counted, to `length`. Answers 0 for a part of `flat`, 1 for
+ * one of `sharp`. Any bytes are a listing: a line ends at its LF, and bytes behind the last LF are
+ * none. Where the listing has no line of this number, or `fifths` is outside -7..7, the part is the
+ * empty one at the end of `flat`: the answer is 0, `start` is `flat_length` and `length` 0. Neither
+ * `start` nor `length` may be NULL, and they overlap no range and not each other. Never refuses. */
+int64_t hemotusap_candidate_line(const uint8_t *flat, size_t flat_length,
+                                 const uint8_t *sharp, size_t sharp_length,
+                                 uint32_t number, int32_t fifths,
+                                 uint64_t *start, uint64_t *length);
 
 /* The number of candidates of a list, which is that of its classes: 0..12. Never refuses. */
 int64_t hemotusap_candidate_count(const uint8_t *codes, size_t count);

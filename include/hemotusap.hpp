@@ -333,6 +333,34 @@ inline result<std::string_view> candidates_strict(range<const std::uint8_t> code
         detail::told_strictly);
 }
 
+inline result<std::string_view> candidates_sharp(range<const std::uint8_t> codes,
+                                                 range<char> out) noexcept {
+    return detail::written<std::string_view>(
+        out, hemotusap_candidates_sharp(codes.data(), codes.size(), detail::bytes(out.data()),
+                                        out.size()));
+}
+
+inline result<std::string_view> candidates_strict_sharp(range<const std::uint8_t> codes,
+                                                        range<char> out) noexcept {
+    return detail::written<std::string_view>(
+        out,
+        hemotusap_candidates_strict_sharp(codes.data(), codes.size(), detail::bytes(out.data()),
+                                          out.size()),
+        detail::told_strictly);
+}
+
+// A view into the listing that the key calls for; where there is no such line, an empty one at the
+// end of the flat listing.
+inline std::string_view candidate_line(std::string_view flat, std::string_view sharp,
+                                       std::uint32_t number, std::int32_t fifths) noexcept {
+    std::uint64_t start = 0, length = 0;
+    const std::int64_t is_sharp = hemotusap_candidate_line(
+        detail::bytes(flat.data()), flat.size(), detail::bytes(sharp.data()), sharp.size(), number,
+        fifths, &start, &length);
+    const std::string_view listing = is_sharp != 0 ? sharp : flat;
+    return {listing.data() + start, static_cast<std::size_t>(length)};
+}
+
 inline std::size_t candidate_count(range<const std::uint8_t> codes) noexcept {
     return static_cast<std::size_t>(hemotusap_candidate_count(codes.data(), codes.size()));
 }

@@ -61,6 +61,29 @@ static void strict_symbols(void)
                  hemotusap_strict_refusal_place(refused));
 }
 
+static void show_line(const uint8_t *flat, int64_t flat_length, const uint8_t *sharp,
+                      int64_t sharp_length, uint32_t number, int32_t fifths)
+{
+    uint64_t start, length;
+    int64_t is_sharp = hemotusap_candidate_line(flat, (size_t)flat_length, sharp,
+                                                (size_t)sharp_length, number, fifths, &start,
+                                                &length);
+    printf(" %.*s", (int)length, (const char *)(is_sharp ? sharp : flat) + start);
+}
+
+/* By the key's count of sharps, or minus that of its flats. */
+static void keys(void)
+{
+    static const uint8_t codes[] = {66, 69, 74};
+    uint8_t flat[HEMOTUSAP_CANDIDATES_ROOM], sharp[HEMOTUSAP_CANDIDATES_ROOM];
+    int64_t flats = hemotusap_candidates(codes, sizeof codes, flat, sizeof flat);
+    int64_t sharps = hemotusap_candidates_sharp(codes, sizeof codes, sharp, sizeof sharp);
+    printf("the last of 66 69 74, in D and in F:");
+    show_line(flat, flats, sharp, sharps, 2, 2);
+    show_line(flat, flats, sharp, sharps, 2, -1);
+    printf("\n");
+}
+
 /* Each candidate by its number, up to the one that is not there. */
 static void elements(void)
 {
@@ -138,6 +161,7 @@ int main(void)
     symbols();
     sets();
     strict_symbols();
+    keys();
     elements();
     qualities();
     notes();

@@ -71,6 +71,18 @@ void strict_symbols() {
     show("60 64 144", hemotusap::candidates_strict(spoiled, lines));
 }
 
+// By the key's count of sharps, or minus that of its flats.
+void keys() {
+    const std::array<std::uint8_t, 3> codes{66, 69, 74};
+    char flat[hemotusap::candidates_room], sharp[hemotusap::candidates_room];
+    const auto flats = hemotusap::candidates(codes, flat);
+    const auto sharps = hemotusap::candidates_sharp(codes, sharp);
+    std::printf("the last of 66 69 74, in D and in F:");
+    print(hemotusap::candidate_line(*flats, *sharps, 2, 2));  // D/F#
+    print(hemotusap::candidate_line(*flats, *sharps, 2, -1)); // D/Gb
+    std::printf("\n");
+}
+
 // Each candidate by its number, up to the one that is not there.
 void elements() {
     const std::array<std::uint8_t, 3> keys{60, 64, 67};
@@ -110,6 +122,7 @@ void voicings() {
 int main() {
     symbols();
     strict_symbols();
+    keys();
     elements();
     qualities();
     notes();

@@ -7,6 +7,7 @@ use std::ops::RangeInclusive;
 use crate::chord::quality::{ChordQuality, PcSet};
 use crate::host;
 use crate::inference::descriptors_from_midi_codes;
+use crate::lines::{joined, sharpened};
 use crate::shown;
 use crate::turns::{Times, in_turns};
 
@@ -19,11 +20,26 @@ pub fn text(out: &[u8], length: i64) -> Cow<'_, str> {
 }
 
 pub fn candidates(lists: &[Vec<u8>]) -> Times {
-    candidates_beside(descriptors_from_midi_codes, host::candidates, lists)
+    candidates_beside(
+        descriptors_from_midi_codes,
+        str::to_owned,
+        host::candidates,
+        lists,
+    )
 }
 
 pub fn candidates_strict(lists: &[Vec<u8>]) -> Times {
-    candidates_beside(of_keys, host::candidates_strict, lists)
+    candidates_beside(of_keys, str::to_owned, host::candidates_strict, lists)
+}
+
+/// The Rust has flat names alone: what is timed makes these, and they are renamed to be compared.
+pub fn candidates_sharp(lists: &[Vec<u8>]) -> Times {
+    candidates_beside(
+        descriptors_from_midi_codes,
+        sharpened,
+        host::candidates_sharp,
+        lists,
+    )
 }
 
 /// The Rust takes any code: in front of its call stands a search for one that is no key.
@@ -36,13 +52,13 @@ fn of_keys(codes: &[u8]) -> Vec<String> {
 
 fn candidates_beside(
     rust: impl Fn(&[u8]) -> Vec<String>,
+    named: impl Fn(&str) -> String,
     ours: impl Fn(&[u8], &mut [u8]) -> i64,
     lists: &[Vec<u8>],
 ) -> Times {
     let mut out = [0; ROOM];
     for list in lists {
-        let mut lines = rust(list).join("\n");
-        lines.push('\n');
+        let lines = joined(&rust(list), &named);
         let length = ours(list, &mut out);
         assert_eq!(lines, text(&out, length), "of {list:?}");
     }

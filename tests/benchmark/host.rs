@@ -13,6 +13,18 @@ unsafe extern "C" {
         out: *mut u8,
         room: usize,
     ) -> i64;
+    fn hemotusap_candidates_sharp(codes: *const u8, count: usize, out: *mut u8, room: usize)
+    -> i64;
+    fn hemotusap_candidate_line(
+        flat: *const u8,
+        flat_length: usize,
+        sharp: *const u8,
+        sharp_length: usize,
+        number: u32,
+        fifths: i32,
+        start: *mut u64,
+        length: *mut u64,
+    ) -> i64;
     fn hemotusap_candidate(codes: *const u8, count: usize, number: u32) -> i64;
     fn hemotusap_harmony(root: u32, bass: u32, set: u32, out: *mut u8, room: usize) -> i64;
     fn hemotusap_voicing(
@@ -55,6 +67,40 @@ pub fn candidates(codes: &[u8], out: &mut [u8]) -> i64 {
 #[inline]
 pub fn candidates_strict(codes: &[u8], out: &mut [u8]) -> i64 {
     unsafe { hemotusap_candidates_strict(codes.as_ptr(), codes.len(), out.as_mut_ptr(), out.len()) }
+}
+
+#[inline]
+pub fn candidates_sharp(codes: &[u8], out: &mut [u8]) -> i64 {
+    unsafe { hemotusap_candidates_sharp(codes.as_ptr(), codes.len(), out.as_mut_ptr(), out.len()) }
+}
+
+/// A part of a listing: of the flat one, 0, or the sharp, 1.
+pub struct Part {
+    pub names: i64,
+    pub start: u64,
+    pub length: u64,
+}
+
+#[inline]
+pub fn candidate_line(flat: &[u8], sharp: &[u8], number: u32, fifths: i32) -> Part {
+    let (mut start, mut length) = (0, 0);
+    let names = unsafe {
+        hemotusap_candidate_line(
+            flat.as_ptr(),
+            flat.len(),
+            sharp.as_ptr(),
+            sharp.len(),
+            number,
+            fifths,
+            &mut start,
+            &mut length,
+        )
+    };
+    Part {
+        names,
+        start,
+        length,
+    }
 }
 
 #[inline]

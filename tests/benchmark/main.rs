@@ -13,6 +13,7 @@ mod host;
 #[allow(dead_code)]
 #[path = "../../docs/src/src/inference/mod.rs"]
 mod inference;
+mod lines;
 mod listings;
 mod moves;
 #[path = "../oracle/notes.rs"]
@@ -74,6 +75,14 @@ fn calls() {
     row(
         "candidates_strict of 1,000 codes",
         chords::candidates_strict(&Draws(1).lists(1_000, 1_000)),
+    );
+    row(
+        "candidates_sharp of 1 to 10 codes",
+        chords::candidates_sharp(&Draws(1).lists_up_to(1_000, 10)),
+    );
+    row(
+        "candidate_line, of 1 to 10 codes",
+        lines::of_lists(&Draws(1).lists_up_to(1_000, 10)),
     );
     row("suffix, 2,048 rooted sets", chords::suffix(1..=12));
     row(

@@ -1,5 +1,9 @@
 #include "answers.h"
 
+#include <string.h>
+
+#include "chosen_line.h"
+
 /* A byte above those that are good, by the refusal that tells its place; NULL: there is none. */
 struct bad_byte {
     const struct refusal *refusal;
@@ -58,7 +62,16 @@ unsigned refusal_at(const struct call *call, int64_t answer)
     return MOST_REFUSALS;
 }
 
-bool may_answer(const struct call *call, int64_t answer)
+/* Of candidate_line the rule alone tells all. */
+static bool may_write(const struct call *call, int64_t answer, const uint8_t *out)
+{
+    if (call->function != &functions[FUNCTION_candidate_line])
+        return true;
+    const struct chosen_line want = chosen_line(call);
+    return answer == want.listing && memcmp(out, want.words, sizeof want.words) == 0;
+}
+
+bool may_answer(const struct call *call, int64_t answer, const uint8_t *out)
 {
     const struct answers *answers = &call->function->answers;
     bool writes = function_writes(call->function);
@@ -66,10 +79,13 @@ bool may_answer(const struct call *call, int64_t answer)
         return refusal_at(call, answer) != MOST_REFUSALS &&
                (answer != -HEMOTUSAP_NO_ROOM || call->room < answers->high);
     return first_bad(call).refusal == NULL && answer >= answers->low && answer <= answers->high &&
-           answer % answers->unit <= answers->most_left && (!writes || answer <= call->room);
+           answer % answers->unit <= answers->most_left && (!writes || answer <= call->room) &&
+           may_write(call, answer, out);
 }
 
 size_t written_by(const struct call *call, int64_t answer)
 {
-    return answer < 0 || !function_writes(call->function) ? 0 : (size_t)answer;
+    if (answer < 0)
+        return 0;
+    return function_writes(call->function) ? (size_t)answer : function_word_bytes(call->function);
 }

@@ -15,8 +15,8 @@ int64_t refusal_answer(const struct refusal *refusal, size_t place);
    before it. */
 unsigned refusal_at(const struct call *call, int64_t answer);
 
-/* Whether the header has this answer for such a call. */
-bool may_answer(const struct call *call, int64_t answer);
+/* Whether the header has this answer for such a call, and the words that stand in the output. */
+bool may_answer(const struct call *call, int64_t answer, const uint8_t *out);
 
 /* The bytes of the output that an answer says are written. */
 size_t written_by(const struct call *call, int64_t answer);

@@ -5,7 +5,9 @@
 #define SIGNED(at, ...) (int32_t)call->numbers[at]
 #define INPUT(at, highest) call->inputs[at].bytes, call->inputs[at].length
 #define SUFFIX(at) INPUT(at, 255)
+#define LINES(at) INPUT(at, 255)
 #define OUTPUT out, (size_t)call->room
+#define WORD(at) (uint64_t *)out + (at)
 
 #define FUNCTION(name, suite, parameters, ...)                         \
     static int64_t name(const struct call *call, uint8_t *out)         \
@@ -19,14 +21,18 @@
 #undef SIGNED
 #undef INPUT
 #undef SUFFIX
+#undef LINES
 #undef OUTPUT
+#undef WORD
 
 /* ..then as what is known of them. */
-#define NUMBER(at, ...) {A_NUMBER, at, __VA_ARGS__, false}
-#define SIGNED(at, ...) {A_SIGNED_NUMBER, at, __VA_ARGS__, false}
-#define INPUT(at, highest) {AN_INPUT, at, 0, highest, false}
-#define SUFFIX(at) {AN_INPUT, at, 0, 255, true}
-#define OUTPUT {AN_OUTPUT, 0, 0, 255, false}
+#define NUMBER(at, ...) {A_NUMBER, at, __VA_ARGS__, NO_TEXT}
+#define SIGNED(at, ...) {A_SIGNED_NUMBER, at, __VA_ARGS__, NO_TEXT}
+#define INPUT(at, highest) {AN_INPUT, at, 0, highest, NO_TEXT}
+#define SUFFIX(at) {AN_INPUT, at, 0, 255, A_SUFFIX}
+#define LINES(at) {AN_INPUT, at, 0, 255, A_LISTING}
+#define OUTPUT {AN_OUTPUT, 0, 0, 255, NO_TEXT}
+#define WORD(at) {A_WORD, at, 0, INT64_MAX, NO_TEXT}
 #define ANY(low, high) {low, high, 1, 0}
 #define EVEN(low, high) {low, high, 2, 0}
 #define NOTE {0, 16 * 6 + 12, 16, 12}
@@ -42,12 +48,22 @@ const struct function functions[FUNCTIONS] = {
 #include "functions.def"
 };
 
+static size_t count_of(enum kind kind, const struct function *function)
+{
+    size_t count = 0;
+    for (const struct parameter *at = function->parameters; at->kind != NO_PARAMETER; at++)
+        count += at->kind == kind;
+    return count;
+}
+
 bool function_writes(const struct function *function)
 {
-    for (const struct parameter *at = function->parameters; at->kind != NO_PARAMETER; at++)
-        if (at->kind == AN_OUTPUT)
-            return true;
-    return false;
+    return count_of(AN_OUTPUT, function) > 0;
+}
+
+size_t function_word_bytes(const struct function *function)
+{
+    return count_of(A_WORD, function) * sizeof(uint64_t);
 }
 
 int64_t call_library(const struct call *call, uint8_t *out)

@@ -10,13 +10,16 @@
 enum { MOST_PARAMETERS = 12, MOST_INPUTS = 2, MOST_REFUSALS = 8, NO_REFUSAL = 0, NO_INPUT = -1 };
 
 /* Its type in C. */
-enum kind { NO_PARAMETER, A_NUMBER, A_SIGNED_NUMBER, AN_INPUT, AN_OUTPUT };
+enum kind { NO_PARAMETER, A_NUMBER, A_SIGNED_NUMBER, AN_INPUT, AN_OUTPUT, A_WORD };
+
+/* What an input is for, where any bytes will do: a drawn one had better be made so. */
+enum text { NO_TEXT, A_SUFFIX, A_LISTING };
 
 struct parameter {
     enum kind kind;
-    size_t at;         /* among the call's numbers, or among its inputs */
+    size_t at;         /* among the call's numbers, its inputs or its words */
     int64_t low, high; /* of the numbers or bytes that are good */
-    bool is_suffix;    /* or any text, so that a drawn one had better be made */
+    enum text text;
 };
 
 /* From lowest to highest; divided by the unit, none leaves more than this. */
@@ -30,7 +33,8 @@ struct refusal {
     int input; /* in which it tells the place of a bad byte, or NO_INPUT */
 };
 
-/* Makes a call on the library: its inputs are lent ones, and so is the output, of its room. */
+/* Makes a call on the library: its inputs are lent ones, and so is the output, of its room. Where
+   it is for words, it stands where one may. */
 typedef int64_t callee(const struct call *call, uint8_t *out);
 
 struct function {
@@ -61,7 +65,11 @@ extern const struct function functions[FUNCTIONS];
                           .input_count = 1,                                                \
                           .room = NO_OUTPUT})
 
+/* Whether its answer counts the bytes of an output that it writes.. */
 bool function_writes(const struct function *function);
+
+/* ..and the bytes of the words that it writes, whatever the answer. */
+size_t function_word_bytes(const struct function *function);
 
 /* Makes the call. The drivers have no other way to the library, so that calls that are wrong on
    purpose can be put in its place. */

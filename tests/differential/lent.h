@@ -25,7 +25,8 @@ struct lent {
 
 struct lent lent_open(size_t most);
 
-/* Lends a range that holds `content`; the one lent before is gone. */
+/* Lends a range that holds `content`; the one lent before is gone. Where words fill it, each stands
+   where a word may: pages end and canaries come in multiples of a word. */
 uint8_t *lend(struct lent *lent, enum place place, const uint8_t *content, size_t length);
 
 struct difference {

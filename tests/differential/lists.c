@@ -2,7 +2,7 @@
 
 #include "draw.h"
 
-enum { SHORT = 16 };
+enum { SHORT = 16, FEW_APART = 431 };
 
 struct list list_of_set(uint32_t set, unsigned first, unsigned octaves)
 {
@@ -14,6 +14,11 @@ struct list list_of_set(uint32_t set, unsigned first, unsigned octaves)
             list.codes[list.length++] = (uint8_t)(class + CLASSES * octave);
     }
     return list;
+}
+
+bool is_one_of_few(uint32_t set, unsigned first)
+{
+    return (set * CLASSES + first) % FEW_APART == 0 || set == ALL_CLASSES;
 }
 
 static uint8_t drawn_code(uint64_t *state, uint32_t classes, uint32_t last)

@@ -3,10 +3,12 @@
 #ifndef LISTS_H
 #define LISTS_H
 
+#include <stdbool.h>
 #include <stddef.h>
 #include <stdint.h>
 
-enum { CLASSES = 12, LONGEST_DRAWN = 400, LAST_KEY = 127, LAST_CODE = 255 };
+enum { CLASSES = 12, SETS = 1 << CLASSES, ALL_CLASSES = SETS - 1 };
+enum { LONGEST_DRAWN = 400, LAST_KEY = 127, LAST_CODE = 255 };
 
 /* In which each class has a code, and a key. */
 enum { OCTAVES = 21, KEY_OCTAVES = 10 };
@@ -19,6 +21,10 @@ struct list {
 /* A code for each class of the set, from `first` upward and round, in octaves that differ, as many
    as this. */
 struct list list_of_set(uint32_t set, unsigned first, unsigned octaves);
+
+/* Whether this set's list is one of the few that are tried at length: one in some hundreds, and
+   those of all classes. */
+bool is_one_of_few(uint32_t set, unsigned first);
 
 /* Half are of keys alone, a quarter of any codes, and a quarter of keys but for one code or two,
    each at any place. */

@@ -25,12 +25,11 @@ static size_t first_bad(struct range list)
     return place;
 }
 
-void expect_strict_in(struct run *run, const struct range *list, const struct lines *want,
+void expect_strict_in(struct run *run, const struct call *call, const struct lines *want,
                       size_t room)
 {
-    const struct call *call = CALL_ON(candidates_strict, list);
-    size_t place = first_bad(*list);
-    if (place == list->length)
+    size_t place = first_bad(call->inputs[0]);
+    if (place == call->inputs[0].length)
         expect_written_in(run, call, want->text, want->length, room);
     else
         expect_unwritten_in(run, call, told(place), room);
@@ -41,8 +40,10 @@ static void expect_told(struct run *run, const uint8_t *codes, size_t length, in
 {
     static const size_t rooms[] = {0, 1, MOST_ROOM};
     const struct range list = {codes, length};
-    for (unsigned at = 0; at < LENGTH(rooms); at++)
+    for (unsigned at = 0; at < LENGTH(rooms); at++) {
         expect_unwritten_in(run, CALL_ON(candidates_strict, &list), refusal, rooms[at]);
+        expect_unwritten_in(run, CALL_ON(candidates_strict_sharp, &list), refusal, rooms[at]);
+    }
 }
 
 /* The last key among them. */

@@ -1,4 +1,4 @@
-/* A suite: the cases of one function of the library, or of two that belong together. */
+/* A suite: the cases of one function of the library, or of several that belong together. */
 #ifndef SUITE_H
 #define SUITE_H
 

@@ -1,55 +1,28 @@
-/* candidates, candidate_count, candidate and candidates_strict, by the oracle: every set of classes
-   with every first class, long lists, and drawn ones, of which there are as many as the command
-   says. */
+/* The four calls that write candidates, candidate_count and candidate, by the oracle: every set of
+   classes with every first class, long lists, and drawn ones, of which there are as many as the
+   command says. */
 #include <stdbool.h>
 #include <string.h>
 
 #include "draw.h"
 #include "length.h"
+#include "listing_rooms.h"
 #include "lists.h"
 #include "numbers_above.h"
-#include "oracle_lines.h"
 #include "strict.h"
 #include "suite.h"
 #include "written.h"
-
-/* Of the sets' lists one in EVERY_ROOM is tried in every room, and those of all classes. */
-enum { SETS = 4096, ALL_CLASSES = SETS - 1, EVERY_ROOM = 431, MOST_ROOM = 1024 };
-
-static void in_room(struct run *run, const struct range *list, const struct lines *want,
-                    size_t room)
-{
-    expect_written_in(run, CALL_ON(candidates, list), want->text, want->length, room);
-    expect_strict_in(run, list, want, room);
-}
-
-static void in_every_room(struct run *run, const struct range *list, const struct lines *want)
-{
-    for (size_t room = 0; room <= want->length + 1; room++)
-        in_room(run, list, want, room);
-}
-
-/* None, the exact room, its neighbours, a drawn one that is too small or just enough, and any. */
-static void in_some_rooms(struct run *run, const struct range *list, const struct lines *want,
-                          uint64_t state)
-{
-    uint32_t length = (uint32_t)want->length;
-    const uint32_t rooms[] = {0, length, length + 1, length == 0 ? 0 : length - 1,
-                              draw_below(&state, length + 1), draw_below(&state, MOST_ROOM)};
-    for (unsigned at = 0; at < LENGTH(rooms); at++)
-        in_room(run, list, want, rooms[at]);
-}
 
 static void lines_of(struct run *run, struct range list, bool every_room, uint64_t state)
 {
     const char *answer = oracle_answer(run, CALL_ON(candidates, &list));
     if (answer == NULL)
         return;
-    struct lines want = lines_in(answer);
+    const struct listings want = listings_in(answer);
     if (every_room)
-        in_every_room(run, &list, &want);
-    in_some_rooms(run, &list, &want, state);
-    expect_number(run, CALL_ON(candidate_count, &list), want.count);
+        expect_in_every_room(run, &list, &want);
+    expect_in_some_rooms(run, &list, &want, state);
+    expect_number(run, CALL_ON(candidate_count, &list), want.flat.count);
 }
 
 static void expect_candidate(struct run *run, const struct range *list, int64_t number,
@@ -87,10 +60,9 @@ static void set_with_first(struct run *run, uint32_t set, unsigned first)
 {
     static const unsigned octaves[] = {OCTAVES, KEY_OCTAVES};
     uint32_t number = set * CLASSES + first;
-    bool every_room = number % EVERY_ROOM == 0 || set == ALL_CLASSES;
     for (unsigned at = 0; at < LENGTH(octaves); at++) {
         struct list list = list_of_set(set, first, octaves[at]);
-        one_list(run, (struct range){list.codes, list.length}, every_room,
+        one_list(run, (struct range){list.codes, list.length}, is_one_of_few(set, first),
                  draws_of(run->seed, number));
     }
 }
@@ -143,19 +115,40 @@ static void every_list(struct run *run)
     drawn_lists(run);
 }
 
+static struct lines as_lines(const char *text)
+{
+    struct lines lines = {.length = strlen(text)};
+    memcpy(lines.text, text, lines.length);
+    return lines;
+}
+
+static void stated_listings(struct run *run, const struct range *list, const char *flat,
+                            const char *sharp)
+{
+    const struct listings want = {as_lines(flat), as_lines(sharp)};
+    expect_in_every_room(run, list, &want);
+}
+
 /* Paper 01, "Engraver's proof sheet". */
 static void the_papers_list(struct run *run)
 {
     static const uint8_t codes[] = {60, 64, 67};
     static const char text[] = "C\nEmi(b6,omit5)/C\nG6sus(omit5)/C\n";
     const struct range list = {codes, sizeof codes};
-    struct lines want = {.count = 3, .length = sizeof text - 1};
-    memcpy(want.text, text, want.length);
-    in_every_room(run, &list, &want);
-    expect_number(run, CALL_ON(candidate_count, &list), want.count);
+    stated_listings(run, &list, text, text);
+    expect_number(run, CALL_ON(candidate_count, &list), 3);
     expect_candidate(run, &list, 0, 15 * 65536 + 0 * 4096 + 145);
     expect_candidate(run, &list, 1, 0 * 65536 + 4 * 4096 + 265);
     expect_candidate(run, &list, 2, 0 * 65536 + 7 * 4096 + 545);
+}
+
+/* The same chord in D, over its third: a black key is root, then bass, and "b6" is no name. */
+static void a_list_with_a_black_key(struct run *run)
+{
+    static const uint8_t codes[] = {66, 62, 69};
+    const struct range list = {codes, sizeof codes};
+    stated_listings(run, &list, "Gbmi(b6,omit5)\nD/Gb\nA6sus(omit5)/Gb\n",
+                    "F#mi(b6,omit5)\nD/F#\nA6sus(omit5)/F#\n");
 }
 
 /* Of a list of all classes, so that a number cut to fewer bits would be one of its candidates. */
@@ -168,6 +161,7 @@ static void expect_no_candidate(struct run *run, int64_t number)
 static void stated_candidates(struct run *run)
 {
     the_papers_list(run);
+    a_list_with_a_black_key(run);
     numbers_above(run, CLASSES, expect_no_candidate);
     bad_codes(run);
 }

@@ -8,7 +8,7 @@
 #include "voicings.h"
 
 /* Of the chords of sets one in EVERY_LEAD is tried with every lead. */
-enum { SETS = 4096, EVERY_LEAD = 431, LEADS = 256, LONGEST = 65552 };
+enum { EVERY_LEAD = 431, LEADS = 256, LONGEST = 65552 };
 
 static void one_chord(struct run *run, const struct chord *chord, uint64_t state)
 {

@@ -93,6 +93,14 @@ void expect_unwritten(struct run *run, const struct call *call, int64_t refusal,
         expect_unwritten_in(run, call, refusal, room);
 }
 
+void expect_words(struct run *run, const struct call *call, int64_t want, const uint64_t *words)
+{
+    const size_t length = function_word_bytes(call->function);
+    const struct call roomy = with_room(call, length);
+    const struct outcome outcome = {NO_REFUSAL, want, (const uint8_t *)words, length};
+    attempt_everywhere(run, &roomy, &outcome);
+}
+
 void expect_number(struct run *run, const struct call *call, int64_t want)
 {
     attempt_everywhere(run, call, &(const struct outcome){.answer = want});

@@ -17,6 +17,9 @@ void expect_unwritten_in(struct run *run, const struct call *call, int64_t refus
 /* Rooms 0 to `most`: refused in each. */
 void expect_unwritten(struct run *run, const struct call *call, int64_t refusal, size_t most);
 
+/* Calls that write words. */
+void expect_words(struct run *run, const struct call *call, int64_t want, const uint64_t *words);
+
 /* Calls that have no output. */
 void expect_number(struct run *run, const struct call *call, int64_t want);
 void expect_refused(struct run *run, const struct call *call, int64_t refusal);

@@ -73,6 +73,8 @@ void refusals() {
     EXPECT(listing("7(b13)", room(keys, 7)).error() == refusal::no_room);
     EXPECT(candidates(zeros, {}).error() == refusal::no_room);
     EXPECT(candidates_strict(zeros, {}).error() == refusal::no_room);
+    EXPECT(candidates_sharp(zeros, {}).error() == refusal::no_room);
+    EXPECT(candidates_strict_sharp(zeros, {}).error() == refusal::no_room);
     EXPECT(harmony(0, {}, 2, text).error() == refusal::not_a_set);
     EXPECT(harmony(12, {}, 1, text).error() == refusal::bad_class);
     EXPECT(harmony(0, {}, 145, text).error() == refusal::no_room);
@@ -121,6 +123,32 @@ void strict() {
     codes[300] = 255;
     EXPECT(hemotusap_candidates_strict(codes.data(), codes.size(), nullptr, 0) == -3116);
     EXPECT(!candidates_strict(bytes(codes.data(), 300), {}).error().place());
+}
+
+// The same bytes, in the same place: a view is of the caller's own listing.
+bool is_part(std::string_view view, std::string_view listing, std::size_t start,
+             std::size_t length) {
+    return view.data() == listing.data() + start && view.size() == length;
+}
+
+void keys() {
+    const std::uint8_t codes[] = {66, 69, 74}, spoiled[] = {66, 69, 144};
+    char one[candidates_room], other[candidates_room], strict[candidates_room];
+    const std::string_view flat = *candidates(codes, one), sharp = *candidates_sharp(codes, other);
+    EXPECT(flat.size() == sharp.size() && *candidates_strict_sharp(codes, strict) == sharp);
+    EXPECT(candidates_strict_sharp(spoiled, strict).error() == refusal::not_a_key);
+    EXPECT(candidates_strict_sharp(spoiled, strict).error().place() == 2u);
+    const std::size_t last = flat.size() - 5;
+    EXPECT(candidate_line(flat, sharp, 2, 2) == "D/F#");
+    EXPECT(candidate_line(flat, sharp, 2, 0) == "D/Gb");
+    EXPECT(is_part(candidate_line(flat, sharp, 2, 7), sharp, last, 4));
+    EXPECT(is_part(candidate_line(flat, sharp, 2, -7), flat, last, 4));
+    for (const std::int32_t fifths : {1, 0, 8, -8, INT32_MAX, INT32_MIN}) {
+        EXPECT(is_part(candidate_line(flat, sharp, 3, fifths), flat, flat.size(), 0));
+        EXPECT(is_part(candidate_line({}, {}, 0, fifths), {}, 0, 0));
+    }
+    EXPECT(is_part(candidate_line(flat, sharp, 2, 8), flat, flat.size(), 0));
+    EXPECT(candidate_line(flat.substr(0, flat.size() - 1), sharp, 2, 0).empty());
 }
 
 // An answer, and what hemotusap.h reads off it.
@@ -190,6 +218,7 @@ int main() {
     refusals();
     places();
     strict();
+    keys();
     parts_of_answers();
     edges();
     elements();

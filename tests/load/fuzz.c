@@ -57,8 +57,9 @@ static bool attempt(const struct made *made, enum place place, const uint8_t *ol
     const struct call *call = &made->call;
     if (!call_lent(&run, call, place, old, &outcome->answer))
         return false;
-    if (!may_answer(call, outcome->answer)) {
-        mismatch(&run, call, "answered %" PRId64 ", which the header has not", outcome->answer);
+    if (!may_answer(call, outcome->answer, lent_output())) {
+        mismatch(&run, call, "answered %" PRId64 ", or wrote, what the header has not",
+                 outcome->answer);
         return false;
     }
     if (call->room == NO_OUTPUT)

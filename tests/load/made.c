@@ -75,10 +75,26 @@ static size_t take_bytes(struct source *from, int64_t highest, uint8_t *bytes)
     return length;
 }
 
+/* Any bytes have few lines: here one in five ends a line. */
+static size_t take_listing(struct source *from, uint8_t *bytes)
+{
+    size_t length = take_bytes(from, UINT8_MAX, bytes);
+    for (size_t at = 0; at < length; at++)
+        if (bytes[at] % 5 == 0)
+            bytes[at] = '\n';
+    return length;
+}
+
+static size_t take_text(struct source *from, enum text text, uint8_t *bytes)
+{
+    return text == A_SUFFIX ? take_suffix(from, bytes) : take_listing(from, bytes);
+}
+
 static struct range take_input(struct source *from, const struct parameter *input, uint8_t *bytes)
 {
-    bool suffix = input->is_suffix && take(from, 1) % 2 == 0;
-    size_t length = suffix ? take_suffix(from, bytes) : take_bytes(from, input->high, bytes);
+    bool made = input->text != NO_TEXT && take(from, 1) % 2 == 0;
+    size_t length =
+        made ? take_text(from, input->text, bytes) : take_bytes(from, input->high, bytes);
     return (struct range){bytes, length};
 }
 
@@ -115,6 +131,8 @@ void make_call(struct made *made, const uint8_t *data, size_t size)
     take_numbers(&from, made);
     if (function_writes(function))
         made->call.room = take_room(&from, function->answers.high);
+    else if (function_word_bytes(function) > 0)
+        made->call.room = (int64_t)function_word_bytes(function);
     take_inputs(&from, made);
 }
 

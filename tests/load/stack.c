@@ -13,7 +13,7 @@ enum { STACK = 1 << 14, PAINT = 0xA7, MOST_ALLOWED = 1 << 12 };
 static uint8_t *stack; /* behind a page that faults */
 static ucontext_t outside, inside;
 static const struct made *making;
-static uint8_t out[MOST_ROOM];
+static _Alignas(uint64_t) uint8_t out[MOST_ROOM]; /* for words too */
 static uint8_t *caller; /* where the frame of the call's maker begins */
 static volatile int64_t answer;
 

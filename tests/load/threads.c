@@ -18,7 +18,7 @@ enum { THREADS = 8, EACH = 200, ROUNDS = 500, SLOW_ROUNDS = 10, SLOW_MICROSECOND
 
 struct outcome {
     int64_t answer;
-    uint8_t bytes[MOST_ROOM];
+    _Alignas(uint64_t) uint8_t bytes[MOST_ROOM];
 };
 
 static struct made calls[FUNCTIONS][EACH];
@@ -82,10 +82,12 @@ static void run_threads(void)
 /* What the header has not would be the same from all threads. */
 static void check_alone(unsigned function)
 {
-    for (unsigned at = 0; at < EACH; at++)
-        if (!may_answer(&calls[function][at].call, alone[function][at].answer))
-            fail("%s answered %" PRId64 ", which the header has not", functions[function].name,
-                 alone[function][at].answer);
+    for (unsigned at = 0; at < EACH; at++) {
+        const struct outcome *got = &alone[function][at];
+        if (!may_answer(&calls[function][at].call, got->answer, got->bytes))
+            fail("%s answered %" PRId64 ", or wrote, what the header has not",
+                 functions[function].name, got->answer);
+    }
 }
 
 static void call_alone(unsigned function)

@@ -50,7 +50,7 @@ refuse() { # NAME ARGUMENTS...
       unless 1 "$3 <= 4095 && $3 % 2"
       unless 2 "$2 <= 11"
       ;;
-    candidates_strict) unless_keys "$2" ;;
+    candidates_strict | candidates_strict_sharp) unless_keys "$2" ;;
     note_text) unless_note "$2" "$3" ;;
     get_note)
       unless_note "$2" "$3"

@@ -89,7 +89,15 @@ static void damage(const char *fault, const struct call *call, int64_t got, uint
         by_a_shared_buffer(out, written);
 }
 
-/* The call with the numbers, or the inputs, of two parameters exchanged. */
+static void swap_words(uint8_t *out, size_t one, size_t other)
+{
+    uint64_t *words = (uint64_t *)out;
+    uint64_t word = words[one];
+    words[one] = words[other];
+    words[other] = word;
+}
+
+/* The call with the numbers, the inputs or the words of two parameters exchanged. */
 static int64_t call_swapped(const char *places, const struct call *call, uint8_t *out)
 {
     const struct parameter *parameters = call->function->parameters;
@@ -106,13 +114,16 @@ static int64_t call_swapped(const char *places, const struct call *call, uint8_t
     if (one->kind == AN_INPUT) {
         inputs[one->at] = call->inputs[other->at];
         inputs[other->at] = call->inputs[one->at];
-    } else {
+    } else if (one->kind != A_WORD) {
         numbers[one->at] = call->numbers[other->at];
         numbers[other->at] = call->numbers[one->at];
     }
     swapped.numbers = numbers;
     swapped.inputs = inputs;
-    return __real_call_library(&swapped, out);
+    int64_t got = __real_call_library(&swapped, out);
+    if (one->kind == A_WORD)
+        swap_words(out, one->at, other->at);
+    return got;
 }
 
 static int64_t call_wrongly(const char *fault, const struct call *call, uint8_t *out)
@@ -120,7 +131,8 @@ static int64_t call_wrongly(const char *fault, const struct call *call, uint8_t 
     static unsigned calls;
     static const char swapped[] = "swapped_parameters_";
     bool now = ++calls % RARE == 0;
-    for (const struct own_fault *own = own_faults(call->function); own->name != NULL; own++)
+    const struct own_fault *own;
+    for (unsigned at = 0; (own = own_fault(call->function, at)) != NULL; at++)
         if (has(fault, own->name))
             return call_with(own, call, out);
     if (strncmp(fault, swapped, sizeof swapped - 1) == 0)

@@ -1,6 +1,6 @@
-/* Faults of candidates_strict: another bad code told than the first, or that one told otherwise,
-   bad codes taken or left out, a good one refused, and refusals out of their order. And one of
-   candidates, which refuses no code. */
+/* Faults of calls that take keys alone: another bad code told than the first, or that one told
+   otherwise, bad codes taken or left out, a good one refused, and refusals out of their order. And
+   one of those that refuse no code. */
 #include "answers.h"
 #include "lent_call.h"
 #include "own_faults.h"
@@ -26,11 +26,14 @@ static int64_t told(size_t place)
     return placed_answer(HEMOTUSAP_NOT_A_KEY, place);
 }
 
-/* What candidates answers of this list. */
+/* What the call that takes any codes, and has the same names, answers of this list. */
 static int64_t unchecked(const struct call *call, struct range list, uint8_t *out)
 {
+    const struct function *function = call->function;
+    bool is_sharp = function == &functions[FUNCTION_candidates_sharp] ||
+                    function == &functions[FUNCTION_candidates_strict_sharp];
     struct call other = *call;
-    other.function = &functions[FUNCTION_candidates];
+    other.function = &functions[is_sharp ? FUNCTION_candidates_sharp : FUNCTION_candidates];
     other.inputs = &list;
     return __real_call_library(&other, out);
 }
@@ -122,12 +125,12 @@ static int64_t place_cut_to_a_byte(const struct call *call, int64_t got)
     return told((size_t)(told(0) - got) % 256);
 }
 
-const struct own_fault faults_of_candidates[] = {
+const struct own_fault faults_of_any_codes[] = {
     {"strict_too", .is_seen = true, .call = strict_too},
     {.name = NULL},
 };
 
-const struct own_fault faults_of_candidates_strict[] = {
+const struct own_fault faults_of_keys_alone[] = {
     {"key_127_refused", .is_seen = true, .call = key_127_refused},
     {"code_128_taken", .is_seen = true, .call = code_128_taken},
     {"every_code_taken", .is_seen = true, .call = every_code_taken},

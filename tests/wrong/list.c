@@ -7,7 +7,8 @@ static const struct fault {
     const char *name;
     bool of_refusals; /* of functions that refuse, */
     bool of_places;   /* of those that tell a place */
-    bool of_outputs;  /* and of those that write */
+    bool of_outputs;  /* of those that write, */
+    bool of_rooms;    /* and of those whose room may be longer than what they write */
     bool is_seen;     /* by the fuzzer, which has no oracle */
     bool is_read;     /* by the reader, which sees the answer alone */
 } faults[] = {
@@ -20,7 +21,7 @@ static const struct fault {
     {"no_place", .of_places = true, .is_seen = true},
     {"first_byte", .of_outputs = true, .is_read = true},
     {"last_byte", .of_outputs = true, .is_read = true},
-    {"behind_the_answer", .of_outputs = true, .is_seen = true},
+    {"behind_the_answer", .of_rooms = true, .is_seen = true},
     {"behind_the_room", .of_outputs = true, .is_seen = true},
     {"before_the_room", .of_outputs = true, .is_seen = true},
     {"after_a_refusal", .of_refusals = true, .of_outputs = true, .is_seen = true},
@@ -29,6 +30,11 @@ static const struct fault {
 static bool is_read(const struct function *function)
 {
     return function == &functions[FUNCTION_harmony];
+}
+
+static bool has_output(const struct function *function)
+{
+    return function_writes(function) || function_word_bytes(function) > 0;
 }
 
 static bool tells_places(const struct function *function)
@@ -45,7 +51,9 @@ static void list(const struct function *function, const struct fault *fault)
         return;
     if (fault->of_places && !tells_places(function))
         return;
-    if (fault->of_outputs && !function_writes(function))
+    if (fault->of_outputs && !has_output(function))
+        return;
+    if (fault->of_rooms && !function_writes(function))
         return;
     printf("%s %s %s\n", function->name, fault->name, function->suite);
     if (fault->is_seen)
@@ -56,7 +64,8 @@ static void list(const struct function *function, const struct fault *fault)
 
 static void list_own(const struct function *function)
 {
-    for (const struct own_fault *own = own_faults(function); own->name != NULL; own++) {
+    const struct own_fault *own;
+    for (unsigned at = 0; (own = own_fault(function, at)) != NULL; at++) {
         printf("%s %s %s\n", function->name, own->name, function->suite);
         if (own->is_seen)
             printf("%s %s fuzzer\n", function->name, own->name);
@@ -93,5 +102,6 @@ int main(void)
     }
     printf("%s by_a_shared_buffer threads\n", functions[FUNCTION_suffix].name);
     printf("%s places_from_1 threads\n", functions[FUNCTION_voicing].name);
+    printf("%s the_lf_too threads\n", functions[FUNCTION_candidate_line].name);
     return 0;
 }

@@ -2,20 +2,28 @@
 
 #include <string.h>
 
-enum { MOST_TEXT = 4096 }; /* an edit may lengthen it */
+enum { MOST_TEXT = 4096, TABLES = 3 }; /* an edit may lengthen a text */
 
-const struct own_fault *own_faults(const struct function *function)
+static const struct own_fault *const tables[FUNCTIONS][TABLES] = {
+    [FUNCTION_candidates] = {faults_of_any_codes, faults_of_names},
+    [FUNCTION_voicing] = {faults_of_voicing},
+    [FUNCTION_harmony] = {faults_of_harmony},
+    [FUNCTION_candidate] = {faults_of_candidate},
+    [FUNCTION_candidates_strict] = {faults_of_keys_alone, faults_of_names},
+    [FUNCTION_candidates_sharp] = {faults_of_any_codes, faults_of_names},
+    [FUNCTION_candidates_strict_sharp] = {faults_of_keys_alone, faults_of_names},
+    [FUNCTION_candidate_line] = {faults_of_fifths, faults_of_lines, faults_of_listings},
+};
+
+const struct own_fault *own_fault(const struct function *function, unsigned number)
 {
-    static const struct own_fault none[] = {{.name = NULL}};
-    static const struct own_fault *const of[FUNCTIONS] = {
-        [FUNCTION_candidates] = faults_of_candidates,
-        [FUNCTION_voicing] = faults_of_voicing,
-        [FUNCTION_harmony] = faults_of_harmony,
-        [FUNCTION_candidate] = faults_of_candidate,
-        [FUNCTION_candidates_strict] = faults_of_candidates_strict,
-    };
-    const struct own_fault *own = of[function - functions];
-    return own == NULL ? none : own;
+    for (unsigned at = 0; at < TABLES; at++) {
+        const struct own_fault *own = tables[function - functions][at];
+        for (; own != NULL && own->name != NULL; own++)
+            if (number-- == 0)
+                return own;
+    }
+    return NULL;
 }
 
 /* Whether an answer is minus (256 * number + place). */

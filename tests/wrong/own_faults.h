@@ -1,4 +1,4 @@
-/* Faults that one function alone can have. */
+/* Faults that one function alone can have, or few alike. */
 #ifndef OWN_FAULTS_H
 #define OWN_FAULTS_H
 
@@ -17,14 +17,18 @@ struct own_fault {
 };
 
 /* Up to one without a name. */
-extern const struct own_fault faults_of_candidates[];
+extern const struct own_fault faults_of_any_codes[];
+extern const struct own_fault faults_of_keys_alone[];
+extern const struct own_fault faults_of_names[];
 extern const struct own_fault faults_of_voicing[];
 extern const struct own_fault faults_of_harmony[];
 extern const struct own_fault faults_of_candidate[];
-extern const struct own_fault faults_of_candidates_strict[];
+extern const struct own_fault faults_of_fifths[];
+extern const struct own_fault faults_of_lines[];
+extern const struct own_fault faults_of_listings[];
 
-/* The function's own, or none. */
-const struct own_fault *own_faults(const struct function *function);
+/* The function's own, by their numbers from 0; NULL: it has no more. */
+const struct own_fault *own_fault(const struct function *function, unsigned number);
 
 /* The call with this fault. */
 int64_t call_with(const struct own_fault *fault, const struct call *call, uint8_t *out);

@@ -3,8 +3,9 @@
 --     both           the same of an answer with the bytes that it leaves
 --     Decides        a contract, as its function's proof and its callers read it (`Post`), allows one answer to each call
 --     DecidesWith    and one content of the range that it was lent
+--     DecidesShown   or, of a reference that it hands back, where that points and the bytes there: what else it has is of the logic, and not of the machine
 --     F-decides      the contract of `F` does
-use Rattle.answer.proofs.Kit.{_≡_, sym, _∙_, List, ℕ, now}
+use Rattle.answer.proofs.Kit.{_≡_, sym, _∙_, List, ℕ, RefT, now}
 use Rattle.answer.proofs.refusal.Refusal.number.Reads as number
 use Rattle.answer.proofs.refusal.Refusal.place.Reads as place
 use Rattle.answer.proofs.output.give.Reads as give
@@ -24,6 +25,10 @@ Decides {K} {A} {R} {S} Post = (κs : K) (a : A κs) (r r′ : R κs) (s s′ : 
 abbrev pub DecidesWith {ℓ} : {K : Type ℓ} {A R S : K → Type 0} → ((κs : K) → A κs → R κs → S κs → Type 0) → ((κs : K) → S κs → List ℕ) → Type ℓ
 DecidesWith {K} {A} {R} {S} Post left =
     (κs : K) (a : A κs) (r r′ : R κs) (s s′ : S κs) → Post κs a r s → Post κs a r′ s′ → (r ≡ r′) × (left κs s ≡ left κs s′)
+
+abbrev pub DecidesShown {ℓ} : {K : Type ℓ} {A S : K → Type 0} → ((κs : K) → A κs → RefT (List ℕ) → S κs → Type 0) → Type ℓ
+DecidesShown {K} {A} {S} Post =
+    (κs : K) (a : A κs) (r r′ : RefT (List ℕ)) (s s′ : S κs) → Post κs a r s → Post κs a r′ s′ → (r .ptr ≡ r′ .ptr) × (r .now ≡ r′ .now)
 
 pub number-decides : Decides number.Post
 number-decides κs a r r′ s s′ = determined

@@ -11,3 +11,5 @@ pub mod Texts
 pub mod Parts
 pub mod First
 pub mod FirstRefused
+pub mod Between
+pub mod Standing

@@ -1,9 +1,10 @@
 -- Texts of lines: paper 02, Q-9 ("A line ends at its LF; bytes behind the last LF are no line").
 use mathlib.Core.Bool.{cond}
-use mathlib.Core.List.{List, [], _∷_}
+use mathlib.Core.List.{List, [], _∷_, _++_, flatMap}
 use mathlib.Core.Option.{Option, none, some}
 use Prim.Native.Nat.{ℕ, zero, suc, _+_}
 use lib.Dec.{eqb}
+use lib.ListN.{length, take}
 
 -- the byte LF
 abbrev pub lineFeed : ℕ
@@ -33,3 +34,11 @@ numberedIn (line ∷ more) (suc n) = numberedIn more n
 -- a text's line of a number from 0
 unfoldable pub lineAt : List ℕ → ℕ → Option (List ℕ)
 lineAt text n = numberedIn (linesOf text) n
+
+-- a line with its LF
+abbrev pub ended : List ℕ → List ℕ
+ended line = line ++ (lineFeed ∷ [])
+
+-- where a text's line of a number begins: behind the lines before it
+unfoldable pub lineStart : List ℕ → ℕ → ℕ
+lineStart text n = length (flatMap ended (take n (linesOf text)))

@@ -5,4 +5,5 @@ pub mod Chords
 pub mod Listed
 pub mod Laws
 pub mod FirstAbove
+pub mod AsLong
 pub mod Determined

@@ -6,6 +6,7 @@ use answer::output::Output;
 use answer::output::give;
 use answer::word::put;
 use inference::normalize::put_suffix;
+use names::table::Names;
 use names::table::class_name;
 ghost use mathlib.Core.Path.{_≡_};
 ghost use mathlib.Core.Bool.{true};
@@ -17,7 +18,7 @@ ghost use Rattle.answer.specs.Replies.{text, Answered};
 ghost use Rattle.intervals.specs.Sets.{has, classCount};
 ghost use Rattle.answer.specs.Written.{Writes};
 ghost use Rattle.answer.specs.Words.{long, textOf};
-ghost use Rattle.names.specs.Names.{flats};
+ghost use Rattle.names.specs.Names.{flats, tableOf};
 ghost use Rattle.rules.specs.Suffix.{suffixOf};
 ghost use Rattle.candidates.specs.Keys.{seenFrom, classSet};
 ghost use Rattle.candidates.specs.Candidates.{chords, over, lines, candidatesOf};
@@ -47,21 +48,21 @@ fn put_line(out: &mut [u8], name: u64, class: u32, set: u32, behind: u64) -> usi
 }
 
 // The candidates of the classes of a set, in their order: each goes into the part of `out` that is still free.
-fn put_lines(out: &mut [u8], order: &[u8], set: u32) -> usize
+fn put_lines(out: &mut [u8], names: Names, order: &[u8], set: u32) -> usize
     requires { ⌜ (set < 4096) × (length (now order) ≤ 12) × Classes set (now order) × (448 ≤ length (now out)) ⌝ }
-    ensures { λ r. ⌜ Writes (now (out .entry)) 0 (lines flats (chords set (now (order .entry)))) r (now (out .exit)) ⌝ }
+    ensures { λ r. ⌜ Writes (now (out .entry)) 0 (lines (tableOf names) (chords set (now (order .entry)))) r (now (out .exit)) ⌝ }
 {
     if order.len() == 0 {
         return 0;
     }
     let root = wide(order[0]);
-    let first = class_name(root);
+    let first = class_name(names, root);
     let behind = over_name(first);
     let mut used = put_line(out, first, root, set, 0);
     let mut i = 1;
     while i < order.len() {
         let class = wide(order[i]);
-        let name = class_name(class);
+        let name = class_name(names, class);
         used += put_line(&mut out[used..], name, class, set, behind);
         i += 1;
     }
@@ -71,16 +72,23 @@ fn put_lines(out: &mut [u8], order: &[u8], set: u32) -> usize
 // Twelve lines of at most 33 bytes, and what a suffix wants free behind the last name.
 const ROOM: usize = 448;
 
-// The candidates of a list of keys, a line each.
-pub fn candidates(keys: &[u8], out: &mut [u8]) -> Output
-    ensures { λ r. ⌜ Answered (text (candidatesOf flats (now (keys .entry)))) (now (out .entry)) r (now (out .exit)) ⌝ }
+// The candidates of a list of keys, a line each, with the names that are asked for.
+pub fn candidates_in(names: Names, keys: &[u8], out: &mut [u8]) -> Output
+    ensures { λ r. ⌜ Answered (text (candidatesOf (tableOf names) (now (keys .entry)))) (now (out .entry)) r (now (out .exit)) ⌝ }
 {
     let mut order = [0u8; 12];
     let found = find(keys, &mut order);
     let count = found.count;
     let mut buffer = [0u8; ROOM];
-    let end = put_lines(&mut buffer, &order[..count], found.set);
+    let end = put_lines(&mut buffer, names, &order[..count], found.set);
     give(&buffer[..end], out)
+}
+
+// The candidates with the flat names, which are those of the Rust.
+pub fn candidates(keys: &[u8], out: &mut [u8]) -> Output
+    ensures { λ r. ⌜ Answered (text (candidatesOf flats (now (keys .entry)))) (now (out .entry)) r (now (out .exit)) ⌝ }
+{
+    candidates_in(Names::Flats, keys, out)
 }
 
 // How many candidates a list of keys has: the classes of its set.

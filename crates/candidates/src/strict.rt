@@ -1,11 +1,12 @@
 // The candidates of keys alone, for hardware: a list with a code that MIDI 1.0 does not allow is refused.
-use crate::lines::candidates;
+use crate::lines::candidates_in;
 use answer::output::Output;
 use answer::refusal::Checked;
 use answer::refusal::Refusal;
+use names::table::Names;
 ghost use mathlib.Core.Path.{_≡_};
 ghost use Rattle.answer.specs.Replies.{Answered};
-ghost use Rattle.names.specs.Names.{flats};
+ghost use Rattle.names.specs.Names.{flats, tableOf};
 ghost use Rattle.candidates.specs.Strict.{keysChecked, strictReply};
 
 const LAST_KEY: u8 = 127;
@@ -24,12 +25,19 @@ pub fn check_keys(codes: &[u8]) -> Checked
     Checked::Passed
 }
 
-// The candidates of a list of keys, a line each, where every code is one.
-pub fn candidates_strict(codes: &[u8], out: &mut [u8]) -> Output
-    ensures { λ r. ⌜ Answered (strictReply flats (now (codes .entry))) (now (out .entry)) r (now (out .exit)) ⌝ }
+// The candidates of a list of keys, a line each, where every code is one, with the names that are asked for.
+pub fn candidates_strict_in(names: Names, codes: &[u8], out: &mut [u8]) -> Output
+    ensures { λ r. ⌜ Answered (strictReply (tableOf names) (now (codes .entry))) (now (out .entry)) r (now (out .exit)) ⌝ }
 {
     match check_keys(codes) {
         Checked::Refused(why) => Output::Refused(why),
-        Checked::Passed => candidates(codes, out),
+        Checked::Passed => candidates_in(names, codes, out),
     }
+}
+
+// The same with the flat names.
+pub fn candidates_strict(codes: &[u8], out: &mut [u8]) -> Output
+    ensures { λ r. ⌜ Answered (strictReply flats (now (codes .entry))) (now (out .entry)) r (now (out .exit)) ⌝ }
+{
+    candidates_strict_in(Names::Flats, codes, out)
 }

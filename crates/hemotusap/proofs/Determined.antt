@@ -1,6 +1,6 @@
 -- Determinacy of the boundary's contracts (`Rattle.answer.proofs.Determined` has the law).
---     F-decides      the contract of `F` allows one answer to each call, and one content of the range that it is lent
-use Rattle.answer.proofs.Kit.{now}
+--     F-decides      the contract of `F` allows one answer to each call, and one content of the range that it is lent, or of the two numbers
+use Rattle.answer.proofs.Kit.{[], _∷_, ap₂, now}
 use Rattle.answer.proofs.Determined.{Decides, DecidesWith, determined, both}
 use Rattle.hemotusap.proofs.naming.hemotusap_quality.Reads as quality
 use Rattle.hemotusap.proofs.moves.hemotusap_get_note.Reads as get-note
@@ -11,6 +11,9 @@ use Rattle.hemotusap.proofs.symbols.hemotusap_listing.Reads as listing
 use Rattle.hemotusap.proofs.symbols.hemotusap_tones.Reads as tones
 use Rattle.hemotusap.proofs.symbols.hemotusap_candidates.Reads as candidates
 use Rattle.hemotusap.proofs.symbols.hemotusap_candidates_strict.Reads as candidates-strict
+use Rattle.hemotusap.proofs.symbols.hemotusap_candidates_sharp.Reads as candidates-sharp
+use Rattle.hemotusap.proofs.symbols.hemotusap_candidates_strict_sharp.Reads as candidates-strict-sharp
+use Rattle.hemotusap.proofs.symbols.hemotusap_candidate_line.Reads as candidate-line
 use Rattle.hemotusap.proofs.symbols.hemotusap_candidate_count.Reads as candidate-count
 use Rattle.hemotusap.proofs.symbols.hemotusap_candidate.Reads as candidate
 use Rattle.hemotusap.proofs.scores.hemotusap_harmony.Reads as harmony
@@ -36,6 +39,16 @@ candidates-decides κs a r r′ s s′ = both
 
 pub candidates-strict-decides : DecidesWith candidates-strict.Post (λ κs s. now (s .1 .0))
 candidates-strict-decides κs a r r′ s s′ = both
+
+pub candidates-sharp-decides : DecidesWith candidates-sharp.Post (λ κs s. now (s .1 .0))
+candidates-sharp-decides κs a r r′ s s′ = both
+
+pub candidates-strict-sharp-decides : DecidesWith candidates-strict-sharp.Post (λ κs s. now (s .1 .0))
+candidates-strict-sharp-decides κs a r r′ s s′ = both
+
+pub candidate-line-decides : DecidesWith candidate-line.Post (λ κs s. now (s .1 .1 .1 .1 .0) ∷ now (s .1 .1 .1 .1 .1 .0) ∷ [])
+candidate-line-decides κs a r r′ s s′ p q =
+    (determined (p .0) (q .0), ap₂ (λ start length. start ∷ length ∷ []) (determined (p .1) (q .1)) (determined (p .2) (q .2)))
 
 pub candidate-count-decides : Decides candidate-count.Post
 candidate-count-decides κs a r r′ s s′ = determined

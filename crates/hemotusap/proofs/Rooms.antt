@@ -10,7 +10,9 @@ use Rattle.listing.proofs.Shared.{listing-room}
 use Rattle.spelling.specs.Tones.{spelledBy, tonesReply}
 use Rattle.spelling.proofs.Room.{tones-room}
 use Rattle.candidates.specs.Candidates.{flats, candidatesOf}
-use Rattle.names.proofs.Named.{flats-brief}
+use Rattle.names.specs.Names.{tableOf}
+use Rattle.names.specs.declared.table.Names.{Names}
+use Rattle.names.proofs.Named.{table-brief}
 use Rattle.candidates.proofs.Listed.{candidates-length}
 use Rattle.candidates.specs.Strict.{strictReply}
 use Rattle.candidates.proofs.FirstAbove.{strict-room}
@@ -39,11 +41,11 @@ listing-enough name = roomy listingRoom (text (listingOf name)) (listing-room na
 pub tones-enough : (root set : ℕ) → Enough tonesRoom (tonesReply spelledBy root set)
 tones-enough root set = roomy tonesRoom (tonesReply spelledBy root set) (tones-room root set)
 
-pub candidates-enough : (codes : List ℕ) → Enough candidatesRoom (text (candidatesOf flats codes))
-candidates-enough codes = roomy candidatesRoom (text (candidatesOf flats codes)) (candidates-length flats flats-brief codes)
+pub candidates-enough : (names : Names) (codes : List ℕ) → Enough candidatesRoom (text (candidatesOf (tableOf names) codes))
+candidates-enough names codes = roomy candidatesRoom (text (candidatesOf (tableOf names) codes)) (candidates-length (tableOf names) (table-brief names) codes)
 
-pub candidates-strict-enough : (codes : List ℕ) → Enough candidatesRoom (strictReply flats codes)
-candidates-strict-enough codes = roomy candidatesRoom (strictReply flats codes) (strict-room codes flats flats-brief)
+pub candidates-strict-enough : (names : Names) (codes : List ℕ) → Enough candidatesRoom (strictReply (tableOf names) codes)
+candidates-strict-enough names codes = roomy candidatesRoom (strictReply (tableOf names) codes) (strict-room codes (tableOf names) (table-brief names))
 
 pub note-text-enough : (note : Note) → Enough noteTextRoom (noteReply signs note)
 note-text-enough note = roomy noteTextRoom (noteReply signs note) (note-text-room note)

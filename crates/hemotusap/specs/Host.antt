@@ -26,6 +26,9 @@ use Rattle.qualities.specs.declared.quality.QualityAnswer.the-variants as Quali
 use Rattle.candidates.specs.declared.parts.Candidate.{Candidate}
 use Rattle.candidates.specs.declared.parts.MaybeCandidate.{MaybeCandidate}
 use Rattle.candidates.specs.declared.parts.MaybeCandidate.the-variants as Candidate
+use Rattle.names.specs.declared.table.Names.{Names}
+use Rattle.names.specs.declared.table.Names.the-variants as Names
+use Rattle.signatures.specs.declared.line.Part.{Part}
 use Rattle.voicings.specs.declared.voicing.Lead.{Lead}
 use Rattle.voicings.specs.declared.voicing.Lead.the-variants as Lead
 use Rattle.voicings.specs.declared.voicing.Chord.{Chord}
@@ -79,6 +82,15 @@ partsNumber c = 65536 * bassNumber (c .bass) + 4096 * c .root + c .set
 abbrev pub candidateNumber : MaybeCandidate → ℤ
 candidateNumber (Candidate.Is c) = pos (partsNumber c)
 candidateNumber Candidate.Nothing = pos 0
+
+-- "0 for a part of the flat listing, 1 for one of the sharp"
+abbrev pub namesNumber : Names → ℕ
+namesNumber Names.Flats = 0
+namesNumber Names.Sharps = 1
+
+-- a part of a listing: which it is, "and .. where it begins and how many bytes it has"
+abbrev pub PartTold : Part → ℤ → ℕ → ℕ → Type 0
+PartTold part r start length = (r ≡ pos (namesNumber (part .names))) × (start ≡ part .start) × (length ≡ part .length)
 
 -- "There bass 255 means none"
 abbrev pub bassFrom : ℕ → Bass

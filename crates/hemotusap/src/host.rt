@@ -6,6 +6,7 @@ use answer::refusal::Refusal;
 use candidates::parts::Candidate;
 use candidates::parts::MaybeCandidate;
 use intervals::bass::Bass;
+use names::table::Names;
 use notes::note::Accidental;
 use notes::note::Note;
 use notes::note::NoteAnswer;
@@ -13,7 +14,7 @@ use qualities::quality::QualityAnswer;
 ghost use mathlib.Core.Path.{_≡_};
 ghost use Prim.Native.Nat.{_+_, _*_};
 ghost use lib.IntN.{pos};
-ghost use Rattle.hemotusap.specs.Host.{minus, refusalNumber, outputNumber, qualityNumber, noteNumber, noteAnswerNumber, bassFrom, bassNumber, partsNumber, candidateNumber};
+ghost use Rattle.hemotusap.specs.Host.{minus, refusalNumber, outputNumber, qualityNumber, noteNumber, noteAnswerNumber, bassFrom, bassNumber, partsNumber, candidateNumber, namesNumber};
 ghost use Rattle.hemotusap.specs.private.Wide.{Fits};
 
 // What the host gives for no bass.
@@ -120,5 +121,15 @@ pub(crate) fn candidate_number(answer: MaybeCandidate) -> i64
     match answer {
         MaybeCandidate::Is(candidate) => parts_number(candidate),
         MaybeCandidate::Nothing => 0,
+    }
+}
+
+// Which listing a part is of.
+pub(crate) fn names_number(names: Names) -> i64
+    ensures { λ r. ⌜ r ≡ pos (namesNumber names) ⌝ }
+{
+    match names {
+        Names::Flats => 0,
+        Names::Sharps => 1,
     }
 }

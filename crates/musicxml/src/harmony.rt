@@ -14,6 +14,7 @@ use descriptors::showing::shown;
 use intervals::bass::Bass;
 use intervals::bass::is_bass;
 use intervals::set::LAST_CLASS;
+use names::table::Names;
 use names::table::class_name;
 use qualities::quality::ChordQuality;
 use qualities::quality::QualityAnswer;
@@ -116,7 +117,7 @@ fn put_pitch(
     requires { ⌜ (class < 12) × (at + length (pitchText class before step alter end) + 8 ≤ length (now buffer)) ⌝ }
     ensures { λ r. ⌜ Writes (now (buffer .entry)) at (pitchText class before step alter end) r (now (buffer .exit)) ⌝ }
 {
-    let name = class_name(class);
+    let name = class_name(Names::Flats, class);
     let before_step = put_part(buffer, at, before);
     let after_step = put(buffer, before_step, ONE_BYTE + name % 0x100);
     let before_alter = put_part(buffer, after_step, step);

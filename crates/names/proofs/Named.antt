@@ -1,15 +1,17 @@
 -- Laws of tables of notes.
-use Rattle.answer.proofs.Kit.{_≡_, refl, Bool, true, _&&_, List, [], _∷_, map, ℕ, zero, suc, _≤_, arith, T, leb, leb→le, length}
+use Rattle.answer.proofs.Kit.{_≡_, refl, sym, ap, _∙_, Bool, true, _&&_, List, [], _∷_, map, ℕ, zero, suc, _≤_, arith, T, eqb, leb, leb→le, length, getD}
 use Rattle.answer.specs.Words.{bytes}
 use Rattle.answer.specs.Lines.{lineFeeds}
 use Rattle.answer.proofs.Digits.{isShort, areBytes}
 use Rattle.answer.proofs.Tests.{left, right, is-true}
-use Rattle.notes.specs.Notes.{isNote}
+use Rattle.notes.specs.Notes.{isNote, semitone}
 use Rattle.notes.specs.NoteText.{letterName, signs, noteName}
 use Rattle.notes.specs.declared.note.Note.{Note}
 use Rattle.notes.specs.declared.note.NoteAnswer.the-variants.{Is}
 use Rattle.notes.proofs.Names as text
-use Rattle.names.specs.Names.{flats, nameOf, noteIn}
+use Rattle.names.specs.declared.table.Names.{Names}
+use Rattle.names.specs.declared.table.Names.the-variants.{Flats, Sharps}
+use Rattle.names.specs.Names.{flats, sharps, tableOf, nameOf, noteIn}
 
 -- a note whose text has at most two bytes
 abbrev isBrief : Note → Bool
@@ -27,9 +29,46 @@ pub flats-read : map (noteName signs) flats
 unfolding flats noteName letterName signs bytes
 flats-read = refl
 
+-- and as paper 02 has them, Q-9
+pub sharps-read : map (noteName signs) sharps
+    ≡ bytes "C" ∷ bytes "C#" ∷ bytes "D" ∷ bytes "D#" ∷ bytes "E" ∷ bytes "F" ∷ bytes "F#" ∷ bytes "G" ∷ bytes "G#" ∷ bytes "A" ∷ bytes "A#"
+    ∷ bytes "B" ∷ []
+unfolding sharps noteName letterName signs bytes
+sharps-read = refl
+
+pub table-brief : (names : Names) → T (areBrief (tableOf names))
+unfolding areBrief flats sharps noteName letterName signs bytes
+table-brief Flats = tt
+table-brief Sharps = tt
+
 pub flats-brief : T (areBrief flats)
-unfolding areBrief flats noteName letterName signs bytes
-flats-brief = tt
+flats-brief = table-brief Flats
+
+-- each of a table's notes sounds the class at whose place it stands, and they are twelve
+unfoldable pub soundsFrom : ℕ → List Note → Bool
+soundsFrom k [] = eqb k 12
+soundsFrom k (n ∷ more) = eqb (semitone n) k && soundsFrom (suc k) more
+
+-- so both names of a black key are that key's
+pub table-sounds : (names : Names) → T (soundsFrom 0 (tableOf names))
+unfolding soundsFrom flats sharps semitone
+table-sounds Flats = tt
+table-sounds Sharps = tt
+
+length-getD : (l : List (List ℕ)) (c : ℕ) → length (getD l c []) ≡ getD (map length l) c 0
+length-getD [] c = refl
+length-getD (t ∷ more) zero = refl
+length-getD (t ∷ more) (suc c) = length-getD more c
+
+lengths : (names : Names) → map length (map (noteName signs) (tableOf names)) ≡ map length (map (noteName signs) flats)
+unfolding flats sharps noteName letterName signs bytes
+lengths Flats = refl
+lengths Sharps = refl
+
+-- a name is as long in one table as in the other
+pub as-long : (names : Names) (c : ℕ) → length (nameOf (tableOf names) c) ≡ length (nameOf flats c)
+as-long names c =
+    length-getD (map (noteName signs) (tableOf names)) c ∙ ap (λ (l : List ℕ). getD l c 0) (lengths names) ∙ sym (length-getD (map (noteName signs) flats) c)
 
 -- the first of a table's notes, and the others
 module _ (n : Note) (more : List Note) (brief : T (areBrief (n ∷ more))) where

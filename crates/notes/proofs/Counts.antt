@@ -10,10 +10,11 @@
 --     plus-six         the height of a count is the count plus six
 --     height-less      and is below 13
 --     lowered-height   from a count to its height and back
-use Rattle.answer.proofs.Kit.{_≡_, refl, sym, ap, subst, _∙_, Bool, true, false, not, _||_, ℕ, _+_, _-_, _^_, _<_, _≤_, suc, arith, T, eqb, leb, ltb, ltb→lt, leb→le, T-not, ℤ, pos, negsuc, negℤ, _+ℤ_, _-ℤ_, +ℤ-negℤ-cancel, mag, leZ, ltZ, leZ-yes, ltZ-yes, ltZ-no, clashℤ, lt-ltb, le-ltb, ne-eqb}
+use Rattle.answer.proofs.Kit.{_≡_, refl, sym, ap, subst, _∙_, Bool, true, false, not, _||_, ℕ, _+_, _-_, _^_, _<_, _≤_, suc, arith, T, eqb, leb, ltb, ltb→lt, leb→le, T-not, ℤ, pos, negsuc, negℤ, _+ℤ_, _-ℤ_, +ℤ-negℤ-cancel, mag, ltZ, lt-ltb, le-ltb, ne-eqb}
 use mir.Syntax.{w32}
 use mir.Val.{SFits, toZ}
-use Rattle.answer.proofs.Tests.{left, right, both, is-true, is-false, said, denied, all, at}
+use Rattle.answer.proofs.Between.{not-below, not-above, inside}
+use Rattle.answer.proofs.Tests.{left, is-true, is-false, said, all, at}
 use Rattle.notes.specs.Notes.{isCount, accidentalOf}
 use Rattle.notes.specs.private.Heights.{heightOf}
 use Rattle.notes.specs.declared.note.Accidental.the-variants.{Count}
@@ -54,18 +55,13 @@ unfolding heightOf
 no-height z e = rw e
 
 pub below : (z : ℤ) → ltZ z (negℤ (pos 6)) ≡ true → heightOf z ≡ 13
-below z e =
-    no-height z
-    (is-false _ (λ t. clashℤ (ltZ-yes {a = z} {b = negℤ (pos 6)} (said _ e)) (leZ-yes (left (leZ (negℤ (pos 6)) z) (leZ z (pos 6)) t))))
+below z e = no-height z (not-below (negℤ (pos 6)) (pos 6) z e)
 
 pub above : (z : ℤ) → ltZ (pos 6) z ≡ true → heightOf z ≡ 13
-above z e =
-    no-height z
-    (is-false _ (λ t. clashℤ (ltZ-yes {a = pos 6} {b = z} (said _ e)) (leZ-yes (right (leZ (negℤ (pos 6)) z) (leZ z (pos 6)) t))))
+above z e = no-height z (not-above (negℤ (pos 6)) (pos 6) z e)
 
 pub counted : (z : ℤ) → ltZ z (negℤ (pos 6)) ≡ false → ltZ (pos 6) z ≡ false → T (isCount z)
-counted z low high =
-    both (leZ (negℤ (pos 6)) z) (leZ z (pos 6)) (ltZ-no {a = z} {b = negℤ (pos 6)} (denied _ low) .le) (ltZ-no {a = pos 6} {b = z} (denied _ high) .le)
+counted z low high = said _ (inside (negℤ (pos 6)) (pos 6) z low high)
 
 pub plus-six : (z : ℤ) → T (isCount z) → z +ℤ pos 6 ≡ pos (heightOf z)
 unfolding heightOf

@@ -3,7 +3,7 @@
 --     plain            a number that is not below 0 has a size that fits
 --     minus-fits       minus a number that is above the lowest and below 0
 --     minus-plain      and that is not below 0
---     small-minus      minus a size below 1,000
+--     small-minus      minus a size below 2 ^ 31
 use Rattle.answer.proofs.Kit.{_≡_, sym, ap, _∙_, true, false, ℕ, zero, suc, _<_, _^_, arith, T, ltb→lt, ℤ, pos, negsuc, negℤ, natAbs, _-ℤ_, +ℤ-idl, leZ, ltZ, nonNeg, lt-ltb, le-leb}
 use mir.Syntax.{w32, w64}
 use mir.Val.{SFits, Fits, toZ, ofZ}
@@ -47,9 +47,9 @@ module _ (z : ℤ) (f : SFits w64 z) where
     pub minus-plain : Plain (held (pos 0 -ℤ held z))
     minus-plain = rw (toZ-ofZ minus-fits ∙ minus) (negated .1)
 
-pub small-minus : (n : ℕ) → n < 1000 → SFits w32 (pos 0 -ℤ toZ w32 n)
+pub small-minus : (n : ℕ) → n < 2147483648 → SFits w32 (pos 0 -ℤ toZ w32 n)
 small-minus n h = rw (lt-ltb n (2 ^ 31) (omega arith)) (rw (+ℤ-idl (negℤ (pos n))) (fits n h))
   where
-    fits : (n : ℕ) → n < 1000 → SFits w32 (negℤ (pos n))
+    fits : (n : ℕ) → n < 2147483648 → SFits w32 (negℤ (pos n))
     fits zero h = record { sfits = omega arith }
     fits (suc n) h = record { sfits = omega arith }

@@ -12,6 +12,9 @@ const ZERO: u8 = b'0';
 
 const NINE: u8 = b'9';
 
+// The size of the lowest number of 32 bits.
+const LOWEST: u32 = 2147483648;
+
 fn is_digit(byte: u8) -> bool {
     (ZERO <= byte) & (byte <= NINE)
 }
@@ -85,15 +88,18 @@ pub(crate) fn number(line: &[u8], part_number: usize) -> u32 {
     read(line, part(line, part_number))
 }
 
-// A number of at most three digits that may be below 0.
+// A number that may be below 0, as far as it fits.
 pub(crate) fn signed(line: &[u8], part_number: usize) -> i32 {
     let at = part(line, part_number);
     let digits = behind(line, at, MINUS);
-    let size = (read(line, digits) % 1000) as i32;
-    if digits > at {
-        return 0 - size;
+    let size = read(line, digits);
+    if digits == at {
+        return (size % LOWEST) as i32;
     }
-    size
+    if size >= LOWEST {
+        return i32::MIN;
+    }
+    0 - (size as i32)
 }
 
 // The bytes of a list, commas between; their count. A list of none is a minus.

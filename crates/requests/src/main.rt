@@ -8,7 +8,11 @@
 //     suffix ROOM SET                                note_text ROOM LETTER COUNT
 //     tones ROOM ROOT SET                            voicing ROOM ROOT BASS LEAD CLASSES INTERVALS
 //     listing ROOM TEXT                              harmony ROOM ROOT BASS SET
-//     candidates_strict ROOM CODES
+//     candidates_strict ROOM CODES                   candidates_sharp ROOM CODES
+//     candidates_strict_sharp ROOM CODES             candidate_line NUMBER CODES FIFTHS LENGTH LENGTH
+//
+// Of a candidate's line both listings are made of CODES, each in a range of full stops, of which the first LENGTH bytes are lent:
+// the listing whole or cut, or more than it. Behind the number stand the start, the length and the line.
 mod line;
 mod print;
 
@@ -20,6 +24,8 @@ use crate::line::signed;
 use crate::print::print;
 use crate::print::print_bytes;
 use crate::print::print_given;
+use crate::print::print_part;
+use crate::print::print_size;
 use hemotusap::moves::hemotusap_get_note;
 use hemotusap::moves::hemotusap_transpose;
 use hemotusap::naming::hemotusap_note_text;
@@ -27,8 +33,11 @@ use hemotusap::naming::hemotusap_quality;
 use hemotusap::scores::hemotusap_harmony;
 use hemotusap::symbols::hemotusap_candidate;
 use hemotusap::symbols::hemotusap_candidate_count;
+use hemotusap::symbols::hemotusap_candidate_line;
 use hemotusap::symbols::hemotusap_candidates;
+use hemotusap::symbols::hemotusap_candidates_sharp;
 use hemotusap::symbols::hemotusap_candidates_strict;
+use hemotusap::symbols::hemotusap_candidates_strict_sharp;
 use hemotusap::symbols::hemotusap_listing;
 use hemotusap::symbols::hemotusap_suffix;
 use hemotusap::symbols::hemotusap_tones;
@@ -74,13 +83,24 @@ fn voicing(line: &[u8], out: &mut [u8]) -> i64 {
     )
 }
 
-fn candidates(line: &[u8], out: &mut [u8], strict: bool) -> i64 {
+// One of the four entries for candidates.
+fn entry(codes: &[u8], out: &mut [u8], strict: bool, sharp: bool) -> i64 {
+    if strict & sharp {
+        return hemotusap_candidates_strict_sharp(codes, out);
+    }
+    if strict {
+        return hemotusap_candidates_strict(codes, out);
+    }
+    if sharp {
+        return hemotusap_candidates_sharp(codes, out);
+    }
+    hemotusap_candidates(codes, out)
+}
+
+fn candidates(line: &[u8], out: &mut [u8], strict: bool, sharp: bool) -> i64 {
     let mut codes = [0u8; RANGE];
     let count = bytes(line, 2, &mut codes);
-    if strict {
-        return hemotusap_candidates_strict(&codes[..count], out);
-    }
-    hemotusap_candidates(&codes[..count], out)
+    entry(&codes[..count], out, strict, sharp)
 }
 
 fn candidate_count(line: &[u8]) -> i64 {
@@ -126,10 +146,16 @@ fn writing(line: &[u8], out: &mut [u8]) -> i64 {
         return hemotusap_suffix(number(line, 2), out);
     }
     if asks(line, b"candidates") {
-        return candidates(line, out, false);
+        return candidates(line, out, false, false);
     }
     if asks(line, b"candidates_strict") {
-        return candidates(line, out, true);
+        return candidates(line, out, true, false);
+    }
+    if asks(line, b"candidates_sharp") {
+        return candidates(line, out, false, true);
+    }
+    if asks(line, b"candidates_strict_sharp") {
+        return candidates(line, out, true, true);
     }
     if asks(line, b"tones") {
         return hemotusap_tones(number(line, 2), number(line, 3), out);
@@ -160,7 +186,46 @@ fn reply_writing(line: &[u8], out: &mut [u8]) {
     }
 }
 
+fn reply_part<'a>(flat: &'a [u8], sharp: &'a [u8], line_number: u32, fifths: i32) {
+    // No answer has these, so that one which is not written shows.
+    let mut start = u64::MAX;
+    let mut length = u64::MAX;
+    let given = hemotusap_candidate_line(flat, sharp, line_number, fifths, &mut start, &mut length);
+    print_given(given);
+    print_size(start);
+    print_size(length);
+    print(b" ");
+    if given == 0 {
+        print_part(flat, start, length);
+    } else {
+        print_part(sharp, start, length);
+    }
+}
+
+fn reply_candidate_line(line: &[u8]) {
+    let mut flat = [FULL_STOP; RANGE];
+    let mut sharp = [FULL_STOP; RANGE];
+    candidates(line, &mut flat, false, false);
+    candidates(line, &mut sharp, false, true);
+    let flat_length = number(line, 4) as usize;
+    let sharp_length = number(line, 5) as usize;
+    if flat_length <= RANGE {
+        if sharp_length <= RANGE {
+            reply_part(
+                &flat[..flat_length],
+                &sharp[..sharp_length],
+                number(line, 1),
+                signed(line, 3),
+            );
+        }
+    }
+}
+
 fn reply(line: &[u8]) {
+    if asks(line, b"candidate_line") {
+        reply_candidate_line(line);
+        return;
+    }
     let given = plain(line);
     if given != UNKNOWN {
         print_given(given);

@@ -21,10 +21,28 @@ pub(crate) fn print_given(given: i64) {
 pub(crate) fn print_bytes(bytes: &[u8]) {
     let mut i = 0;
     while i < bytes.len() {
-        print(b" ");
-        io::print_decimal(STDOUT_FILENO, wide(bytes[i]));
+        print_size(wide(bytes[i]));
         i += 1;
     }
+}
+
+pub(crate) fn print_size(size: u64) {
+    print(b" ");
+    io::print_decimal(STDOUT_FILENO, size);
+}
+
+// A part of a range, if it is one.
+pub(crate) fn print_part(range: &[u8], start: u64, length: u64) {
+    let size = range.len() as u64;
+    if start > size {
+        return;
+    }
+    if length > size - start {
+        return;
+    }
+    let from = start as usize;
+    let end = (start + length) as usize;
+    print(&range[from..end]);
 }
 
 fn wide(byte: u8) -> u64 {

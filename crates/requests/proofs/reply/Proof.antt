@@ -5,6 +5,7 @@ use Rattle.requests.proofs.reply.Tie as tie
 
 pub reply-spec : {M : Type 1} → statement M
 reply-spec = tie.close (tie.spec
+    (λ c. search needs) (λ c κs. search needs) (λ c κs. search needs) (λ c. search needs)
     (λ c κs. search needs) (λ c κs. search needs) (λ c. search needs) (λ c κs. search needs)
     (λ c. omega arith)
     (λ c. omega arith)

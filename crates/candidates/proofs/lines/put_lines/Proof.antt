@@ -1,5 +1,5 @@
 -- `candidates::lines::put_lines` meets its contract. The loop's invariant: the lines of the classes before `i` are written.
-use Rattle.answer.proofs.Kit.{_≡_, refl, ap, _∙_, true, List, [], map, flatMap, ℕ, _+_, _-_, _*_, _<_, _≤_, arith, T, length, drop, drop-length, now, needs}
+use Rattle.answer.proofs.Kit.{_≡_, refl, ap, _∙_, true, List, [], map, flatMap, ℕ, _+_, _-_, _*_, _<_, _≤_, arith, length, drop, drop-length, now, needs}
 use borrow.Rule.Slice.PartMut.{putMid}
 use Rattle.intervals.specs.Sets.{has}
 use Rattle.intervals.specs.declared.bass.Bass.the-variants.{None, Class}
@@ -7,32 +7,25 @@ use Rattle.answer.specs.Words.{digits, long, textOf}
 use Rattle.answer.specs.Written.{Writes}
 use Rattle.answer.proofs.Parts.{part-puts, part-long}
 use Rattle.answer.proofs.Writing.{also, same-text, Puts, SoFar, so-far-none, so-far-next, so-far-all}
-use Rattle.names.specs.Names.{flats}
-use Rattle.names.proofs.Named.{areBrief, flats-brief}
-use Rattle.notes.specs.declared.note.Note.{Note}
+use Rattle.names.specs.Names.{tableOf}
+use Rattle.names.specs.declared.table.Names.{Names}
+use Rattle.names.proofs.Named.{table-brief}
 use Rattle.candidates.specs.Candidates.{chord, over, line, lines}
 use Rattle.candidates.proofs.Listed.{name-long, name-text, line-of-pieces, line-length, one-line, all-lines, none-listed}
 use Rattle.candidates.proofs.Chords.{chord-rooted}
 use Rattle.candidates.proofs.lines.put_lines.Statement.{statement}
 use Rattle.candidates.proofs.lines.put_lines.Tie as tie
 
--- the code's table, for which nothing else is used but that its names are brief
-abbrev table : List Note
-table = flats
-
-brief : T (areBrief table)
-brief = flats-brief
-
--- the lines of the classes from the one at i on
-abbrev left : ℕ → ℕ → List ℕ → ℕ → List ℕ
-left set root order i = lines table (map (chord set (Class root)) (drop i order))
+-- the lines of the classes from the one at i on; of the table nothing is used but that its names are brief
+abbrev left : Names → ℕ → ℕ → List ℕ → ℕ → List ℕ
+left names set root order i = lines (tableOf names) (map (chord set (Class root)) (drop i order))
 
 abbrev Inv-loop : tie.InvT-loop
-Inv-loop out₀ order set root first behind used₀ i₀ out used i =
-    SoFar out₀ used₀ (left set root order 1) out used (left set root order i) × (used ≤ 33 * i) × (i ≤ length order)
+Inv-loop out₀ names order set root first behind used₀ i₀ out used i =
+    SoFar out₀ used₀ (left names set root order 1) out used (left names set root order i) × (used ≤ 33 * i) × (i ≤ length order)
 
 abbrev μ-loop : tie.MeasureT-loop
-μ-loop out₀ order set root first behind used₀ i₀ out used i = length order - i
+μ-loop out₀ names order set root first behind used₀ i₀ out used i = length order - i
 
 -- the first class is one of the set
 first-is : (c : tie.After-wide Inv-loop μ-loop) → (c .wide .result < 12) × (has (c .before .before .before .before .before .args .set) (c .wide .result) ≡ true)
@@ -42,7 +35,9 @@ first-is c =
     (rw (c .wide .ensures) (k .0), rw (c .wide .ensures) (k .1))
 
 first-long : (c : tie.After-class-name Inv-loop μ-loop) → long (c .class-name .result) ≤ 2
-first-long c = name-long table brief (c .before .wide .result) _ (c .class-name .ensures)
+first-long c =
+    let n = c .before .before .before .before .before .before .args .names in
+    name-long (tableOf n) (table-brief n) (c .before .wide .result) _ (c .class-name .ensures)
 
 -- and so is a later one
 next-is : (c : tie.After-wide2 Inv-loop μ-loop)
@@ -65,13 +60,13 @@ roomy c =
 wrote-first : (c : tie.After-put-line Inv-loop μ-loop)
     → let w = c .before .before .before .before in
     let s = w .before .before .before .before .before in
-    Writes (now (s .args .out)) 0 (line table (chord (s .args .set) None (w .wide .result))) (c .put-line .result) (c .put-line .last .0)
+    Writes (now (s .args .out)) 0 (line (tableOf (s .args .names)) (chord (s .args .set) None (w .wide .result))) (c .put-line .result) (c .put-line .last .0)
 unfolding textOf digits
 wrote-first c =
     let n = c .before .before .before in
     let w = n .before in
     let s = w .before .before .before .before .before in
-    same-text (line-of-pieces table (s .args .set) None (w .wide .result) _ [] (name-text table brief (w .wide .result) _ (n .class-name .ensures)) refl) (c .put-line .ensures)
+    same-text (line-of-pieces (tableOf (s .args .names)) (s .args .set) None (w .wide .result) _ [] (name-text (tableOf (s .args .names)) (table-brief (s .args .names)) (w .wide .result) _ (n .class-name .ensures)) refl) (c .put-line .ensures)
 
 loop-holds : tie.Need-loop-holds Inv-loop μ-loop
 loop-holds c =
@@ -79,7 +74,7 @@ loop-holds c =
     let w = f .before .before .before .before in
     let s = w .before .before .before .before .before in
     let k = first-is w in
-    let short = line-length table brief (chord (s .args .set) None (w .wide .result)) (chord-rooted (s .args .set) None (w .wide .result) (k .0) (k .1)) in
+    let short = line-length (tableOf (s .args .names)) (table-brief (s .args .names)) (chord (s .args .set) None (w .wide .result)) (chord-rooted (s .args .set) None (w .wide .result) (k .0) (k .1)) in
     (so-far-none _ _ _, omega (arith, short, wrote-first f .place), omega arith)
 
 put-line-requires : tie.Need-put-line-requires-2 Inv-loop μ-loop
@@ -89,7 +84,7 @@ put-line-requires c κs =
     let l = w .before .before .before in
     let below = l .before .before .before .before .before in
     let s = below .before .before .before .before .before .before .before in (
-      name-long table brief (w .wide2 .result) _ (n .class-name2 .ensures),
+      name-long (tableOf (s .args .names)) (table-brief (s .args .names)) (w .wide2 .result) _ (n .class-name2 .ensures),
       next-is w .0,
       s .pre .0,
       next-is w .1,
@@ -103,7 +98,7 @@ wrote-next : (c : tie.After-put-line2 Inv-loop μ-loop)
     let l = w .before .before .before in
     let root = l .before .before .before .before .before .before .before in
     let s = root .before .before .before .before .before in
-    Puts (l .loop .out) (l .loop .used) (line table (chord (s .args .set) (Class (root .wide .result)) (w .wide2 .result)))
+    Puts (l .loop .out) (l .loop .used) (line (tableOf (s .args .names)) (chord (s .args .set) (Class (root .wide .result)) (w .wide2 .result)))
     (l .loop .used + c .put-line2 .result) (putMid (l .loop .used) (length (l .loop .out) - l .loop .used) (l .loop .out) (c .put-line2 .last .0))
 wrote-next c =
     let n = c .before .before in
@@ -112,10 +107,10 @@ wrote-next c =
     let below = l .before .before .before .before .before in
     let first = below .before in
     let s = first .before .before .before .before .before .before in
-    let name = name-text table brief (w .wide2 .result) _ (n .class-name2 .ensures) in
-    let behind = below .over-name .ensures .0 ∙ ap over (name-text table brief (first .before .wide .result) _ (first .class-name .ensures)) in
+    let name = name-text (tableOf (s .args .names)) (table-brief (s .args .names)) (w .wide2 .result) _ (n .class-name2 .ensures) in
+    let behind = below .over-name .ensures .0 ∙ ap over (name-text (tableOf (s .args .names)) (table-brief (s .args .names)) (first .before .wide .result) _ (first .class-name .ensures)) in
     part-puts (l .loop .out) (l .loop .used) (length (l .loop .out) - l .loop .used) (omega (arith, roomy (w .before .before)))
-    (same-text (line-of-pieces table (s .args .set) (Class (first .before .wide .result)) (w .wide2 .result) _ _ name behind) (c .put-line2 .ensures)) (c .put-line2 .kept .0)
+    (same-text (line-of-pieces (tableOf (s .args .names)) (s .args .set) (Class (first .before .wide .result)) (w .wide2 .result) _ _ name behind) (c .put-line2 .ensures)) (c .put-line2 .kept .0)
 
 -- which has at most 33 bytes
 short-next : (c : tie.After-put-line2 Inv-loop μ-loop) → c .put-line2 .result ≤ 33
@@ -125,7 +120,7 @@ short-next c =
     let root = l .before .before .before .before .before .before .before in
     let s = root .before .before .before .before .before in
     let k = next-is w in
-    omega (arith, wrote-next c .wrote .place, line-length table brief (chord (s .args .set) (Class (root .wide .result)) (w .wide2 .result)) (chord-rooted (s .args .set) (Class (root .wide .result)) (w .wide2 .result) (k .0) (k .1)))
+    omega (arith, wrote-next c .wrote .place, line-length (tableOf (s .args .names)) (table-brief (s .args .names)) (chord (s .args .set) (Class (root .wide .result)) (w .wide2 .result)) (chord-rooted (s .args .set) (Class (root .wide .result)) (w .wide2 .result) (k .0) (k .1)))
 
 loop-again : tie.Need-loop-again Inv-loop μ-loop
 loop-again c =
@@ -135,7 +130,7 @@ loop-again c =
     let root = l .before .before .before .before .before .before .before in
     let s = root .before .before .before .before .before in
     let order = now (s .args .order) in
-    let next = one-line table (s .args .set) order (Class (root .wide .result)) (l .loop .i) (w .wide2 .result) (w .wide2 .ensures) (omega arith) in
+    let next = one-line (tableOf (s .args .names)) (s .args .set) order (Class (root .wide .result)) (l .loop .i) (w .wide2 .result) (w .wide2 .ensures) (omega arith) in
     (so-far-next (l .loop .inv .0) _ _ next (wrote-next n), omega (arith, short-next n, l .loop .inv .1), omega arith)
 
 returns-2 : tie.Need-returns-2 Inv-loop μ-loop
@@ -147,14 +142,14 @@ returns-2 c =
     let s = root .before .before .before .before .before in
     let order = now (s .args .order) in
     let end : h .i ≡ length order = omega (arith, h .inv .2) in
-    let none : left (s .args .set) (root .wide .result) order (h .i) ≡ [] = ap (left (s .args .set) (root .wide .result) order) end ∙ ap (λ (l : List ℕ). lines table (map (chord (s .args .set) (Class (root .wide .result))) l)) (drop-length order) in
-    same-text (all-lines table (s .args .set) order (root .wide .result) (root .wide .ensures) (omega arith)) (also (wrote-first f) (so-far-all (h .inv .0) none .wrote))
+    let none : left (s .args .names) (s .args .set) (root .wide .result) order (h .i) ≡ [] = ap (left (s .args .names) (s .args .set) (root .wide .result) order) end ∙ ap (λ (l : List ℕ). lines (tableOf (s .args .names)) (map (chord (s .args .set) (Class (root .wide .result))) l)) (drop-length order) in
+    same-text (all-lines (tableOf (s .args .names)) (s .args .set) order (root .wide .result) (root .wide .ensures) (omega arith)) (also (wrote-first f) (so-far-all (h .inv .0) none .wrote))
 
 pub put-lines-spec : {M : Type 1} → statement M
 put-lines-spec = tie.close (tie.spec
     Inv-loop
     μ-loop
-    (λ c. none-listed table _ _ _ (c .if1 .taken))
+    (λ c. none-listed _ _ _ _ (c .if1 .taken))
     (λ c. omega arith)
     (λ c κs. search needs) (λ c κs. search needs)
     (λ c κs. first-long c)

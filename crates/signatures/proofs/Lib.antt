@@ -1,0 +1,4 @@
+pub mod Walked
+pub mod Laws
+pub mod InKey
+pub mod Determined
