@@ -1,6 +1,5 @@
 pub mod Wide
 pub mod Determined
 pub mod Rooms
-pub mod ReadBack
 pub mod Refusals
 pub mod Exported

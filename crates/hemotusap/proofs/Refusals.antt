@@ -30,8 +30,8 @@ use Rattle.pool.specs.Checks.{pairsChecked}
 use Rattle.pool.proofs.FirstBad.{FirstBad, SaysWhy, Says, checked-says}
 use Rattle.voicings.specs.declared.voicing.Chord.{Chord}
 use Rattle.voicings.specs.Voicing.{voicingOf, voicingReply}
-use Rattle.hemotusap.specs.Host.{minus, sizeOf, refusalNumber}
-use Rattle.hemotusap.proofs.Wide.{as-written}
+use Rattle.host.specs.Numbers.{minus, sizeOf, refusalNumber}
+use Rattle.host.proofs.Wide.{as-written}
 
 pub record Reading : Type 1 where
   pub number : ℕ → ℕ

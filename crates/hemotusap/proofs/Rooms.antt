@@ -6,7 +6,7 @@ use Rattle.answer.proofs.Rooms.{roomy}
 use Rattle.rules.specs.Suffix.{suffixReply}
 use Rattle.rules.proofs.Short.{suffix-room}
 use Rattle.listing.specs.Listing.{listingOf}
-use Rattle.listing.proofs.Shared.{listing-room}
+use Rattle.listing.proofs.Laws.{listing-room}
 use Rattle.spelling.specs.Tones.{spelledBy, tonesReply}
 use Rattle.spelling.proofs.Room.{tones-room}
 use Rattle.candidates.specs.Candidates.{flats, candidatesOf}

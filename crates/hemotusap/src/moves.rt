@@ -1,9 +1,9 @@
 // Note moves for the host.
-use crate::host::moved;
+use host::numbers::moved;
 use notes::note::Note;
 ghost use mathlib.Core.Path.{_≡_};
 ghost use Rattle.notes.specs.Notes.{noteOf, getNoteAnswer, transposeAnswer};
-ghost use Rattle.hemotusap.specs.Host.{noteAnswerNumber};
+ghost use Rattle.host.specs.Numbers.{noteAnswerNumber};
 
 #[no_mangle]
 pub extern "C" fn hemotusap_get_note(

@@ -1,13 +1,14 @@
 // Qualities and texts for the host.
-use crate::host::quality_number;
-use crate::host::written;
+use crate::outputs::written;
+use host::numbers::quality_number;
 use notes::note::Note;
 use qualities::quality::quality;
 ghost use mathlib.Core.Path.{_≡_};
 ghost use Rattle.notes.specs.Notes.{noteOf};
 ghost use Rattle.notes.specs.NoteText.{signs, noteReply};
 ghost use Rattle.qualities.specs.Qualities.{qualityAnswer};
-ghost use Rattle.hemotusap.specs.Host.{qualityNumber, HostAnswered};
+ghost use Rattle.host.specs.Numbers.{qualityNumber};
+ghost use Rattle.hemotusap.specs.Host.{HostAnswered};
 
 #[no_mangle]
 pub extern "C" fn hemotusap_quality(set: u32) -> i64

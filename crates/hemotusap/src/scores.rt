@@ -1,9 +1,10 @@
 // Scores for the host: the `harmony` element of MusicXML.
-use crate::host::bass_from;
-use crate::host::written;
+use crate::outputs::written;
+use host::numbers::bass_from;
 use musicxml::harmony::harmony;
 ghost use Rattle.musicxml.specs.Replies.{flats, harmonyReply};
-ghost use Rattle.hemotusap.specs.Host.{bassFrom, HostAnswered};
+ghost use Rattle.host.specs.Numbers.{bassFrom};
+ghost use Rattle.hemotusap.specs.Host.{HostAnswered};
 
 #[no_mangle]
 pub extern "C" fn hemotusap_harmony(root: u32, bass: u32, set: u32, out: &mut [u8]) -> i64

@@ -1,13 +1,13 @@
 // Chord symbols for the host: the suffix of a set, the sets of a suffix, the candidates of a list of keys, spelled tones.
-use crate::host::candidate_number;
-use crate::host::names_number;
-use crate::host::written;
+use crate::outputs::written;
 use candidates::lines::candidate_count;
 use candidates::lines::candidates;
 use candidates::lines::candidates_in;
 use candidates::numbered::candidate;
 use candidates::strict::candidates_strict;
 use candidates::strict::candidates_strict_in;
+use host::numbers::candidate_number;
+use host::numbers::names_number;
 use inference::normalize::suffix;
 use listing::search::listing;
 use names::table::Names;
@@ -24,7 +24,8 @@ ghost use Rattle.candidates.specs.Strict.{strictReply};
 ghost use Rattle.listing.specs.Listing.{listingOf};
 ghost use Rattle.spelling.specs.Tones.{spelledBy, tonesReply};
 ghost use Rattle.signatures.specs.Part.{partOf};
-ghost use Rattle.hemotusap.specs.Host.{candidateNumber, HostAnswered, PartTold};
+ghost use Rattle.host.specs.Numbers.{candidateNumber};
+ghost use Rattle.hemotusap.specs.Host.{HostAnswered, PartTold};
 
 #[no_mangle]
 pub extern "C" fn hemotusap_suffix(set: u32, out: &mut [u8]) -> i64

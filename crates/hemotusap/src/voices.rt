@@ -1,6 +1,6 @@
 // Voicings for the host.
-use crate::host::bass_from;
-use crate::host::written;
+use crate::outputs::written;
+use host::numbers::bass_from;
 use voicings::voicing::Chord;
 use voicings::voicing::Lead;
 use voicings::voicing::voicing;

@@ -8,8 +8,9 @@ use Rattle.answer.specs.Words.{same}
 use Rattle.answer.specs.Written.{Writes}
 use Rattle.answer.proofs.Writing.{stored, SoFar, so-far-end}
 use Rattle.rules.specs.Suffix.{suffixOf}
-use Rattle.listing.specs.Listing.{matching, inBytes, listingOf}
-use Rattle.listing.proofs.Shared.{listing-room}
+use Rattle.suffixes.specs.Sets.{matching}
+use Rattle.listing.specs.Listing.{inBytes, listingOf}
+use Rattle.listing.proofs.Laws.{listing-room}
 
 abbrev pub left-of : List ℕ → ℕ → List ℕ
 left-of t i = inBytes (matching t (2048 - i) (2 * i + 1))

@@ -1,5 +1,4 @@
 pub mod Compared
 pub mod Laws
-pub mod Shared
 pub mod Found
 pub mod Determined

@@ -10,7 +10,8 @@ use Rattle.rules.specs.Suffix.{suffixOf, suffixReply}
 use Rattle.rules.proofs.Computed.{suffix-computed}
 use Rattle.intervals.proofs.Rooted.{is-rooted, at-rooted}
 use Rattle.rules.proofs.Agree.{same-bool, same-bool→eq}
-use Rattle.listing.specs.Listing.{matching, setsOf, inBytes, listingOf}
+use Rattle.suffixes.specs.Sets.{matching, setsOf}
+use Rattle.listing.specs.Listing.{inBytes, listingOf}
 use Rattle.voicings.proofs.Computed.{voicing-computed}
 use Rattle.sheet.specs.Sheet.{gives, answerOf, Row, sheet, Holds, AllHold}
 

@@ -3,7 +3,7 @@ use Rattle.answer.proofs.Kit.{ap, _∙_, needs}
 use mir.Facts.{toZ-ofZ}
 use Rattle.notes.specs.Notes.{noteOf, getNoteAnswer}
 use Rattle.notes.specs.declared.note.Note.{Note}
-use Rattle.hemotusap.specs.Host.{noteAnswerNumber}
+use Rattle.host.specs.Numbers.{noteAnswerNumber}
 use Rattle.hemotusap.proofs.moves.hemotusap_get_note.Statement.{statement}
 use Rattle.hemotusap.proofs.moves.hemotusap_get_note.Tie as tie
 

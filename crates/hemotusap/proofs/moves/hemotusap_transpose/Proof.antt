@@ -3,7 +3,7 @@ use Rattle.answer.proofs.Kit.{ap, ap₂, _∙_, needs}
 use mir.Facts.{toZ-ofZ}
 use Rattle.notes.specs.Notes.{noteOf, transposeAnswer}
 use Rattle.notes.specs.declared.note.Note.{Note}
-use Rattle.hemotusap.specs.Host.{noteAnswerNumber}
+use Rattle.host.specs.Numbers.{noteAnswerNumber}
 use Rattle.hemotusap.proofs.moves.hemotusap_transpose.Statement.{statement}
 use Rattle.hemotusap.proofs.moves.hemotusap_transpose.Tie as tie
 

@@ -1,7 +1,7 @@
 -- `hemotusap::naming::hemotusap_quality` meets its contract.
 use Rattle.answer.proofs.Kit.{ap, _∙_, needs}
 use mir.Facts.{toZ-ofZ}
-use Rattle.hemotusap.specs.Host.{qualityNumber}
+use Rattle.host.specs.Numbers.{qualityNumber}
 use Rattle.hemotusap.proofs.naming.hemotusap_quality.Statement.{statement}
 use Rattle.hemotusap.proofs.naming.hemotusap_quality.Tie as tie
 

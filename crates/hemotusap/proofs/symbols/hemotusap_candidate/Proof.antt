@@ -1,7 +1,7 @@
 -- `hemotusap::symbols::hemotusap_candidate` meets its contract.
 use Rattle.answer.proofs.Kit.{ap, _∙_, needs}
 use mir.Facts.{toZ-ofZ}
-use Rattle.hemotusap.specs.Host.{candidateNumber}
+use Rattle.host.specs.Numbers.{candidateNumber}
 use Rattle.hemotusap.proofs.symbols.hemotusap_candidate.Statement.{statement}
 use Rattle.hemotusap.proofs.symbols.hemotusap_candidate.Tie as tie
 

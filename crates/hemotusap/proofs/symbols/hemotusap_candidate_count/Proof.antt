@@ -1,6 +1,6 @@
 -- `hemotusap::symbols::hemotusap_candidate_count` meets its contract.
 use Rattle.answer.proofs.Kit.{ap, _∙_, arith, pos, needs}
-use Rattle.hemotusap.proofs.Wide.{held-pos}
+use Rattle.host.proofs.Wide.{held-pos}
 use Rattle.hemotusap.proofs.symbols.hemotusap_candidate_count.Statement.{statement}
 use Rattle.hemotusap.proofs.symbols.hemotusap_candidate_count.Tie as tie
 

@@ -3,7 +3,7 @@ use Rattle.answer.proofs.Kit.{_≡_, ap, _∙_, pos, now, needs}
 use mir.Facts.{toZ-ofZ}
 use Rattle.signatures.specs.declared.line.Part.{Part}
 use Rattle.signatures.specs.Part.{partOf}
-use Rattle.hemotusap.specs.Host.{namesNumber}
+use Rattle.host.specs.Numbers.{namesNumber}
 use Rattle.hemotusap.proofs.symbols.hemotusap_candidate_line.Statement.{statement}
 use Rattle.hemotusap.proofs.symbols.hemotusap_candidate_line.Tie as tie
 

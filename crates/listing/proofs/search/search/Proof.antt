@@ -2,7 +2,8 @@
 use Rattle.answer.proofs.Kit.{_≡_, ap, sym, subst, subst₂, _∙_, List, ⊎-elim, ℕ, _+_, _-_, _≤_, arith, now}
 use Rattle.answer.proofs.Writing.{SoFar, so-far-none, so-far-next, so-far-all}
 use Rattle.intervals.proofs.Rooted.{is-rooted}
-use Rattle.listing.specs.Listing.{matching, setsOf, inBytes, listingOf}
+use Rattle.suffixes.specs.Sets.{matching, setsOf}
+use Rattle.listing.specs.Listing.{inBytes, listingOf}
 use Rattle.listing.proofs.Found.{left-of, one-found, one-skipped, has-room}
 use Rattle.listing.proofs.search.search.Statement.{statement}
 use Rattle.listing.proofs.search.search.Tie as tie
