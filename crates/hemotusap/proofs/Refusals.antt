@@ -26,8 +26,8 @@ use Rattle.candidates.specs.Strict.{strictReply}
 use Rattle.candidates.proofs.FirstAbove.{either, strict-same, strict-refused}
 use Rattle.pool.specs.declared.pool.Tone.{Tone}
 use Rattle.pool.specs.Pool.{tonesOf}
-use Rattle.pool.specs.Checks.{pairsChecked}
-use Rattle.pool.proofs.FirstBad.{FirstBad, SaysWhy, Says, checked-says}
+use Rattle.pairs.specs.Checks.{pairsChecked}
+use Rattle.pairs.proofs.FirstBad.{FirstBad, SaysWhy, Says, checked-says}
 use Rattle.voicings.specs.declared.voicing.Chord.{Chord}
 use Rattle.voicings.specs.Voicing.{voicingOf, voicingReply}
 use Rattle.host.specs.Numbers.{minus, sizeOf, refusalNumber}

@@ -4,7 +4,6 @@ pub mod Sift
 pub mod Walk
 pub mod Turns
 pub mod Pairs
-pub mod FirstBad
 pub mod Pooled
 pub mod Among
 pub mod Determined

@@ -1,4 +1,3 @@
 pub mod Pool
 pub mod Order
-pub mod Checks
 pub mod private

@@ -1,4 +1,3 @@
-// The pool of a voicing: its tones, whether they can be tones, and their order.
-pub mod checks;
+// The pool of a voicing: its tones, and their order.
 pub mod order;
 pub mod pool;

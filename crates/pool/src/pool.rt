@@ -53,7 +53,7 @@ impl Tone {
 }
 
 // How many pairs are used: as many as the shorter range has.
-pub(crate) fn used(classes: &[u8], intervals: &[u8]) -> usize
+pub fn used(classes: &[u8], intervals: &[u8]) -> usize
     ensures { λ r. ⌜ r ≡ length (tonesOf (now (classes .entry)) (now (intervals .entry))) ⌝ }
 {
     if classes.len() < intervals.len() {

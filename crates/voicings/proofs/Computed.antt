@@ -5,7 +5,7 @@ use Rattle.intervals.specs.Sets.{has, isIn, without}
 use Rattle.intervals.specs.Intervals.{intervals, nth, numbered, setOf}
 use Rattle.pool.specs.Pool.{tonesOf, anyTone}
 use Rattle.pool.specs.Order.{insert, sorted}
-use Rattle.pool.specs.Checks.{pairsChecked}
+use Rattle.pairs.specs.Checks.{pairsChecked}
 use Rattle.keys.specs.Choice.{keysFrom, keysOf, keysOfTone, keysOfTones, nearest, chosen, otherTones, placedIn, placed}
 use Rattle.leads.specs.Lead.{barring, lastOf, unbarred, owns, withoutLast, leadOf}
 use Rattle.voicings.specs.Guides.{holdsAny, sixths, sevenths, guides, tensions, guideKeys, tensionKeys}

@@ -9,8 +9,8 @@ use Rattle.intervals.specs.Bass.{isBass}
 use Rattle.pool.specs.declared.pool.Tone.{Tone}
 use Rattle.pool.specs.Pool.{tonesOf}
 use Rattle.pool.specs.Order.{sorted}
-use Rattle.pool.specs.Checks.{pairsChecked}
-use Rattle.pool.proofs.FirstBad.{Says, checked-says}
+use Rattle.pairs.specs.Checks.{pairsChecked}
+use Rattle.pairs.proofs.FirstBad.{Says, checked-says}
 use Rattle.pool.proofs.Sorted.{sorted-length}
 use Rattle.leads.specs.Lead.{leadOf, withoutLast}
 use Rattle.leads.proofs.Led.{fewer}

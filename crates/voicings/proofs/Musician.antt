@@ -14,8 +14,8 @@ use Rattle.intervals.specs.declared.bass.Bass.the-variants as Bass
 use Rattle.pool.specs.declared.pool.Tone.{Tone}
 use Rattle.pool.specs.Pool.{tonesOf}
 use Rattle.pool.specs.Order.{sorted}
-use Rattle.pool.specs.Checks.{pairsChecked}
-use Rattle.pool.proofs.FirstBad.{Says, checked-says}
+use Rattle.pairs.specs.Checks.{pairsChecked}
+use Rattle.pairs.proofs.FirstBad.{Says, checked-says}
 use Rattle.pool.proofs.Among.{in-sorted}
 use Rattle.keys.specs.Range.{lowestKey, highestKey}
 use Rattle.keys.specs.Choice.{placed}

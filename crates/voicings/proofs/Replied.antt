@@ -13,7 +13,7 @@ use Rattle.intervals.specs.declared.bass.Bass.{Bass}
 use Rattle.intervals.specs.declared.bass.Bass.the-variants as Bass
 use Rattle.voicings.specs.declared.voicing.Chord.{Chord}
 use Rattle.pool.specs.Pool.{tonesOf}
-use Rattle.pool.specs.Checks.{pairsChecked}
+use Rattle.pairs.specs.Checks.{pairsChecked}
 use Rattle.voicings.specs.Voicing.{bassKeys, voicingOf, voicingReply}
 
 module _ (lowest highest : ℕ) (chord : Chord) (cs is : List ℕ) where

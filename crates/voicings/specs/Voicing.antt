@@ -14,7 +14,7 @@ use Rattle.voicings.specs.declared.voicing.Lead.the-variants as Lead
 use Rattle.voicings.specs.declared.voicing.Chord.{Chord}
 use Rattle.pool.specs.Pool.{tonesOf}
 use Rattle.pool.specs.Order.{sorted}
-use Rattle.pool.specs.Checks.{pairsChecked}
+use Rattle.pairs.specs.Checks.{pairsChecked}
 use Rattle.leads.specs.Lead.{leadOf, withoutLast}
 use Rattle.voicings.specs.Guides.{guideKeys, tensionKeys}
 

@@ -10,7 +10,7 @@ use intervals::set::LAST_CLASS;
 use keys::range::HIGHEST;
 use keys::range::LOWEST;
 use leads::lead::nearest_lead;
-use pool::checks::check_pairs;
+use pairs::checks::check_pairs;
 ghost use mathlib.Core.Path.{_≡_};
 ghost use mathlib.Core.Bool.{true};
 ghost use Prim.Native.Nat.{_≤_, _<_};

@@ -16,8 +16,8 @@ use Rattle.leads.specs.Lead.{leadOf}
 use Rattle.leads.specs.private.Leaves.{ledOf}
 use Rattle.leads.proofs.Led.{led-is, led-left}
 use Rattle.voicings.specs.Voicing.{wantedOf, bassKeys, aboveBass, above, voicingOf}
-use Rattle.pool.specs.Checks.{pairsChecked}
-use Rattle.pool.proofs.FirstBad.{Says, checked-says}
+use Rattle.pairs.specs.Checks.{pairsChecked}
+use Rattle.pairs.proofs.FirstBad.{Says, checked-says}
 use Rattle.pool.proofs.Sorted.{sorted-length}
 use Rattle.voicings.proofs.Replied.{no-class, pairs-refused, gives-voicing, few-bass}
 use Rattle.voicings.proofs.voicing.voicing_within.Statement.{statement}

@@ -1,15 +1,15 @@
--- `pool::checks::check_each` meets its contract. The loop's invariant: the first bad one of the pairs that are left is the first of all.
+-- `pairs::checks::check_each` meets its contract. The loop's invariant: the first bad one of the pairs that are left is the first of all.
 use Rattle.answer.proofs.Kit.{_≡_, sym, ap, ap₂, _∙_, true, false, List, _∷_, ℕ, _+_, _-_, _≤_, _<_, arith, length, take, getD, slice, now, lt-leb, le-leb}
 use Rattle.answer.proofs.FirstRefused.{refusedFrom, here, onward, from-0, at-end}
 use Rattle.answer.specs.declared.refusal.Checked.{Checked}
 use Rattle.answer.specs.declared.refusal.Checked.the-variants.{Refused}
 use Rattle.answer.specs.declared.refusal.Refusal.the-variants.{BadPairClass, BadPairInterval}
 use Rattle.pool.specs.declared.pool.Tone.{Tone}
 use Rattle.pool.specs.Pool.{toneOf, tonesOf}
-use Rattle.pool.specs.Checks.{isBad, badPair, firstChecked}
+use Rattle.pairs.specs.Checks.{isBad, badPair, firstChecked}
 use Rattle.pool.proofs.Left.{next, none}
-use Rattle.pool.proofs.checks.check_each.Statement.{statement}
-use Rattle.pool.proofs.checks.check_each.Tie as tie
+use Rattle.pairs.proofs.checks.check_each.Statement.{statement}
+use Rattle.pairs.proofs.checks.check_each.Tie as tie
 
 abbrev pairsFrom : ℕ → ℕ → List ℕ → List ℕ → List Tone
 pairsFrom i n classes intervals = tonesOf (slice i n classes) (slice i n intervals)

@@ -1,13 +1,13 @@
 // Whether the pairs of a chord can be its tones.
-use crate::pool::MOST;
-use crate::pool::used;
 use answer::refusal::Checked;
 use answer::refusal::Refusal;
+use pool::pool::MOST;
+use pool::pool::used;
 ghost use mathlib.Core.Path.{_≡_};
 ghost use Prim.Native.Nat.{_≤_};
 ghost use lib.ListN.{length, take};
 ghost use Rattle.pool.specs.Pool.{tonesOf};
-ghost use Rattle.pool.specs.Checks.{firstChecked, pairsChecked};
+ghost use Rattle.pairs.specs.Checks.{firstChecked, pairsChecked};
 
 const LAST_NOTE: u8 = 11;
 

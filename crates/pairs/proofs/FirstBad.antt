@@ -12,8 +12,8 @@ use Rattle.answer.specs.declared.refusal.Checked.{Checked}
 use Rattle.answer.specs.declared.refusal.Checked.the-variants.{Passed, Refused}
 use Rattle.answer.specs.declared.refusal.Refusal.{Refusal}
 use Rattle.answer.specs.declared.refusal.Refusal.the-variants.{NotASet, BadClass, TooManyPairs, BadPairClass, BadPairInterval, BadNote, BadMove, NotAKey, NoRoom}
 use Rattle.pool.specs.declared.pool.Tone.{Tone}
-use Rattle.pool.specs.Checks.{isBad, badPair, firstChecked, pairsChecked}
+use Rattle.pairs.specs.Checks.{isBad, badPair, firstChecked, pairsChecked}
 
 abbrev pub IsGood : Tone → Type 0
 IsGood t = (t .class ≤ 11) × (t .interval ≤ 22)

@@ -1,10 +1,10 @@
--- `pool::checks::check_pairs` meets its contract: by the count of the pairs, then by each of them.
+-- `pairs::checks::check_pairs` meets its contract: by the count of the pairs, then by each of them.
 use Rattle.answer.proofs.Kit.{_≡_, ap, subst, _∙_, List, ℕ, _≤_, _<_, length, take, now, lt-leb, le-leb, needs}
 use Rattle.pool.specs.Pool.{tonesOf}
-use Rattle.pool.specs.Checks.{firstChecked, pairsChecked}
+use Rattle.pairs.specs.Checks.{firstChecked, pairsChecked}
 use Rattle.pool.proofs.Pairs.{few-classes, few-intervals, first-used}
-use Rattle.pool.proofs.checks.check_pairs.Statement.{statement}
-use Rattle.pool.proofs.checks.check_pairs.Tie as tie
+use Rattle.pairs.proofs.checks.check_pairs.Statement.{statement}
+use Rattle.pairs.proofs.checks.check_pairs.Tie as tie
 
 -- how many pairs there are
 module _ (c : tie.Else1) where

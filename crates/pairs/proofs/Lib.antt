@@ -1,0 +1,2 @@
+pub mod FirstBad
+pub mod Determined
