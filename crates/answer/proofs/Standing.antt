@@ -2,7 +2,7 @@
 --     line-bytes     from where a line of a number begins, so many bytes are the line
 --     line-within    and it ends before the text does: at its LF
 use mathlib.Core.Option.{some}
-use Rattle.answer.proofs.Kit.{_≡_, refl, sym, ap, _∙_, Bool, true, false, cond, List, [], _∷_, _++_, append-assoc, flatMap, ℕ, zero, suc, _+_, _<_, arith, eqb, eqb-true, length, length-append, take, drop, drop-at, take-at}
+use Rattle.answer.proofs.Kit.{_≡_, refl, sym, ap, _∙_, Bool, true, true≢false, false, cond, List, [], _∷_, _++_, append-assoc, flatMap, ℕ, zero, suc, _+_, _<_, arith, eqb, eqb-true, length, length-append, take, drop, drop-at, take-at}
 use Rattle.answer.specs.Lines.{lineFeed, begunWith, linesOf, numberedIn, lineAt, ended, lineStart}
 
 -- the first line of a text begins it, and the others are those of the rest
@@ -12,7 +12,7 @@ record Begins (text line : List ℕ) (lines : List (List ℕ)) : Type 0 where
   others : linesOf rest ≡ lines
 
 no-line : {A : Type 0} {x : List ℕ} {l : List (List ℕ)} → [] ≡ x ∷ l → A
-no-line e = absurd (let no-way : _≡_ {A = ℕ} 0 1 = cc in let bottom : ⊥ = omega arith in bottom)
+no-line e = absurd (true≢false cc)
 
 begins : (text line : List ℕ) (lines : List (List ℕ)) → linesOf text ≡ line ∷ lines → Begins text line lines
 unfolding linesOf begunWith
@@ -42,7 +42,7 @@ record Stands (text before line : List ℕ) : Type 0 where
 
 stands : (n : ℕ) (text line : List ℕ) (lines : List (List ℕ)) → linesOf text ≡ lines → numberedIn lines n ≡ some line → Stands text (flatMap ended (take n lines)) line
 unfolding numberedIn flatMap
-stands n text line [] e found = absurd (let no-way : _≡_ {A = ℕ} 0 1 = cc in let bottom : ⊥ = omega arith in bottom)
+stands n text line [] e found = absurd (true≢false cc)
 stands zero text line (l ∷ more) e found =
     let first : l ≡ line = cc in
     let b = begins text l more e in

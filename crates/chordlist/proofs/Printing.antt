@@ -3,7 +3,7 @@
 --     no-text        a text of no bytes is printed by leaving all as it is
 --     by-count       a text printed, from its length and what the range holds
 --     two-more       two bytes stored behind a text
-use Rattle.answer.proofs.Kit.{_≡_, refl, sym, ap, _∙_, Bool, true, false, List, [], _∷_, _++_, ℕ, _+_, _≤_, arith, unary-clauses, leb, length, take, drop, set, length-append, length-drop, sets, sets-eq, take-at, take-append-seam, drop-append-add, drop-drop, leb-true}
+use Rattle.answer.proofs.Kit.{_≡_, refl, sym, ap, _∙_, Bool, true, true≢false, false, List, [], _∷_, _++_, ℕ, _+_, _≤_, arith, unary-clauses, leb, length, take, drop, set, length-append, length-drop, sets, sets-eq, take-at, take-append-seam, drop-append-add, drop-drop, leb-true}
 use Rattle.answer.specs.Replies.{outputOf, roomAfter}
 use Rattle.answer.specs.declared.output.Output.the-variants.{Written, Refused}
 use Rattle.answer.specs.declared.refusal.Refusal.the-variants.{NoRoom}
@@ -32,8 +32,7 @@ fronted {t} {room} {left} {n} p = go (leb (length t) (length room)) refl
         }
     go false e =
         let told : Written n ≡ Refused NoRoom = p .0 ∙ rw e in
-        let no-way : _≡_ {A = ℕ} 0 1 = cc in
-        absurd (let bottom : ⊥ = omega arith in bottom)
+        absurd (true≢false cc)
 
 pub by-count : (t room left : List ℕ) (n : ℕ) → n ≡ length t → n ≤ length room → left ≡ t ++ drop n room → Printed t room n left
 by-count t room left n is fits stands =

@@ -1,7 +1,7 @@
 -- A line holds codes exactly when it is their texts with one space between.
 --     spaced-read    such a line is read
 --     read-spaced    and a line that is read is such
-use Rattle.answer.proofs.Kit.{_≡_, refl, sym, ap, ap₂, _∙_, Bool, true, false, cond, _&&_, List, [], _∷_, _++_, map, append-nil, ℕ, _<_, arith, eqb, leb, ltb, leb→le, ltb→lt, length, length-append, ne-eqb, eqb-true}
+use Rattle.answer.proofs.Kit.{_≡_, refl, sym, ap, ap₂, _∙_, Bool, true, true≢false, false, cond, _&&_, List, [], _∷_, _++_, map, append-nil, ℕ, _<_, arith, eqb, leb, ltb, leb→le, ltb→lt, length, length-append, ne-eqb, eqb-true}
 use Rattle.answer.proofs.Tests.{left, right, said, is-true}
 use Rattle.chordlist.specs.Parts.{withByte, parts, joined}
 use Rattle.chordlist.specs.Codes.{Line, bad, holds, space, isDigit, areDigits, decimal, isCode, areCodes, Spaced, withCode, codesOf, codesIn}
@@ -111,8 +111,8 @@ parts-held (p ∷ more) codes e = by-case (isCode p) (codesOf more) e (parts-hel
     by-case : (b : Bool) (l : Line) → cond b (withCode (decimal 0 p) l) bad ≡ holds codes → ((cs : List ℕ) → l ≡ holds cs → (areCodes more ≡ true) × (map (decimal 0) more ≡ cs))
         → (b && areCodes more ≡ true) × (decimal 0 p ∷ map (decimal 0) more ≡ codes)
     by-case true (holds cs) e rest = let r = rest cs refl in let is : decimal 0 p ∷ cs ≡ codes = cc in (r .0, ap (λ (l : List ℕ). decimal 0 p ∷ l) (r .1) ∙ is)
-    by-case true bad e rest = absurd (let no-way : _≡_ {A = ℕ} 0 1 = cc in let bottom : ⊥ = omega arith in bottom)
-    by-case false l e rest = absurd (let no-way : _≡_ {A = ℕ} 0 1 = cc in let bottom : ⊥ = omega arith in bottom)
+    by-case true bad e rest = absurd (true≢false cc)
+    by-case false l e rest = absurd (true≢false cc)
 
 pub read-spaced : (line codes : List ℕ) → codesIn line ≡ holds codes → Spaced line codes
 unfolding codesIn areCodes joined

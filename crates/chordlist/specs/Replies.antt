@@ -8,7 +8,7 @@ use Rattle.notes.specs.declared.note.Note.{Note}
 use Rattle.answer.specs.Lines.{lineFeed}
 use Rattle.answer.specs.Words.{bytes}
 use Rattle.answer.specs.Replies.{Reply, refuse, text}
-use Rattle.candidates.specs.Strict.{strictReply}
+use Rattle.strict.specs.Strict.{strictReply}
 use Rattle.chordlist.specs.Codes.{Line, bad, holds, codesIn}
 
 -- "`?` alone"

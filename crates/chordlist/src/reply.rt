@@ -2,7 +2,7 @@
 use crate::codes::Codes;
 use crate::codes::read_codes;
 use answer::output::Output;
-use candidates::strict::candidates_strict;
+use strict::entry::candidates_strict;
 ghost use Prim.Native.Nat.{_≤_};
 ghost use lib.ListN.{length};
 ghost use Rattle.names.specs.Names.{flats};

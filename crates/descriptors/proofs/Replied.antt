@@ -4,7 +4,7 @@
 --     described       where a descriptor is answered, the number is a rooted set, and the descriptor its own
 --     refused         where a refusal is, it is none
 --     shown-not-rooted, shown-rooted, shown-told, shown-refused     the same of the quality
-use Rattle.answer.proofs.Kit.{_≡_, refl, Bool, true, false, ℕ, arith}
+use Rattle.answer.proofs.Kit.{_≡_, refl, Bool, true, true≢false, false, ℕ, arith}
 use Rattle.answer.specs.declared.refusal.Refusal.{Refusal}
 use Rattle.answer.specs.declared.refusal.Refusal.the-variants.{NotASet}
 use Rattle.intervals.specs.Sets.{isRooted}
@@ -32,13 +32,13 @@ module _ (s : ℕ) where
       where
         by-case : (b : Bool) → isRooted s ≡ b → (isRooted s ≡ true) × (d ≡ descriptorOf s)
         by-case true h = (h, cc (rooted h))
-        by-case false h = absurd (let z : _≡_ {A = ℕ} 0 1 = cc (not-rooted h) in let no-way : ⊥ = omega arith in no-way)
+        by-case false h = absurd (true≢false (cc (not-rooted h)))
 
     pub refused : (why : Refusal) → answer ≡ Refused why → isRooted s ≡ false
     refused why e = by-case (isRooted s) refl
       where
         by-case : (b : Bool) → isRooted s ≡ b → isRooted s ≡ false
-        by-case true h = absurd (let z : _≡_ {A = ℕ} 0 1 = cc (rooted h) in let no-way : ⊥ = omega arith in no-way)
+        by-case true h = absurd (true≢false (cc (rooted h)))
         by-case false h = h
 
   pub shown-not-rooted : isRooted s ≡ false → Quality.Refused NotASet ≡ shownAnswer s
@@ -55,11 +55,11 @@ module _ (s : ℕ) where
       where
         by-case : (b : Bool) → isRooted s ≡ b → (isRooted s ≡ true) × (q ≡ suffixQuality s)
         by-case true h = (h, cc (shown-rooted h))
-        by-case false h = absurd (let z : _≡_ {A = ℕ} 0 1 = cc (shown-not-rooted h) in let no-way : ⊥ = omega arith in no-way)
+        by-case false h = absurd (true≢false (cc (shown-not-rooted h)))
 
     pub shown-refused : (why : Refusal) → answer ≡ Quality.Refused why → isRooted s ≡ false
     shown-refused why e = by-case (isRooted s) refl
       where
         by-case : (b : Bool) → isRooted s ≡ b → isRooted s ≡ false
-        by-case true h = absurd (let z : _≡_ {A = ℕ} 0 1 = cc (shown-rooted h) in let no-way : ⊥ = omega arith in no-way)
+        by-case true h = absurd (true≢false (cc (shown-rooted h)))
         by-case false h = h

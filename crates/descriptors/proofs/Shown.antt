@@ -1,7 +1,7 @@
 -- The quality that a set shows: a set with a third put in is a set, so it has a quality.
 --     shown      where an answer is a quality, it is the one shown
 --     refused    it is no refusal
-use Rattle.answer.proofs.Kit.{_≡_, ap, _∙_, ℕ, _<_, arith, le-leb}
+use Rattle.answer.proofs.Kit.{_≡_, ap, _∙_, ℕ, _<_, arith, le-leb, true≢false}
 use Rattle.answer.specs.declared.refusal.Refusal.{Refusal}
 use Rattle.intervals.specs.Sets.{isSet}
 use Rattle.qualities.specs.Qualities.{qualityOf, qualityAnswer}
@@ -21,4 +21,4 @@ module _ (a : QualityAnswer) (x s : ℕ) (told : a ≡ qualityAnswer x) (with : 
       let same : q ≡ qualityOf x = cc (has-quality x (with .1)) in same ∙ ap qualityOf (with .0)
 
   pub refused : (why : Refusal) → a ≡ Refused why → ⊥
-  refused why e = let z : _≡_ {A = ℕ} 0 1 = cc (has-quality x (with .1)) in omega arith
+  refused why e = true≢false (cc (has-quality x (with .1)))

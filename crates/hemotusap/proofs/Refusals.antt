@@ -22,8 +22,8 @@ use Rattle.answer.specs.declared.refusal.Refusal.the-variants.{NotASet, BadClas
 use Rattle.intervals.specs.Bass.{isBass}
 use Rattle.notes.specs.declared.note.Note.{Note}
 use Rattle.candidates.specs.Candidates.{candidatesOf}
-use Rattle.candidates.specs.Strict.{strictReply}
-use Rattle.candidates.proofs.FirstAbove.{either, strict-same, strict-refused}
+use Rattle.strict.specs.Strict.{strictReply}
+use Rattle.strict.proofs.FirstAbove.{either, strict-same, strict-refused}
 use Rattle.pool.specs.declared.pool.Tone.{Tone}
 use Rattle.pool.specs.Pool.{tonesOf}
 use Rattle.pairs.specs.Checks.{pairsChecked}

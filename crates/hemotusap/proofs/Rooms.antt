@@ -14,8 +14,8 @@ use Rattle.names.specs.Names.{tableOf}
 use Rattle.names.specs.declared.table.Names.{Names}
 use Rattle.names.proofs.Named.{table-brief}
 use Rattle.candidates.proofs.Listed.{candidates-length}
-use Rattle.candidates.specs.Strict.{strictReply}
-use Rattle.candidates.proofs.FirstAbove.{strict-room}
+use Rattle.strict.specs.Strict.{strictReply}
+use Rattle.strict.proofs.FirstAbove.{strict-room}
 use Rattle.notes.specs.declared.note.Note.{Note}
 use Rattle.notes.specs.NoteText.{signs, noteReply}
 use Rattle.notes.proofs.Names.{note-text-room}

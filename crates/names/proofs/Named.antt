@@ -1,5 +1,5 @@
 -- Laws of tables of notes.
-use Rattle.answer.proofs.Kit.{_≡_, refl, sym, ap, _∙_, Bool, true, _&&_, List, [], _∷_, map, ℕ, zero, suc, _≤_, arith, T, eqb, leb, leb→le, length, getD}
+use Rattle.answer.proofs.Kit.{_≡_, refl, sym, ap, _∙_, Bool, true, true≢false, _&&_, List, [], _∷_, map, ℕ, zero, suc, _≤_, arith, T, eqb, leb, leb→le, length, getD}
 use Rattle.answer.specs.Words.{bytes}
 use Rattle.answer.specs.Lines.{lineFeeds}
 use Rattle.answer.proofs.Digits.{isShort, areBytes}
@@ -105,6 +105,6 @@ module _ (table : List Note) (brief : T (areBrief table)) where
 
 -- what a table gives for a class is a note
 pub note-in : (table : List Note) → T (areBrief table) → (c : ℕ) (n : Note) → noteIn table c ≡ Is n → isNote n ≡ true
-note-in [] t c n e = absurd (let no-way : _≡_ {A = ℕ} 0 1 = cc in let bottom : ⊥ = omega arith in bottom)
+note-in [] t c n e = absurd (true≢false cc)
 note-in (m ∷ more) t zero n e = let same : m ≡ n = cc in rw same at (first-is m more t)
 note-in (m ∷ more) t (suc c) n e = note-in more (rest-brief m more t) c n e

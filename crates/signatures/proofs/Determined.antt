@@ -1,11 +1,7 @@
 -- Determinacy of the crate's public contracts (`Rattle.answer.proofs.Determined` has the law).
 use Rattle.answer.proofs.Determined.{Decides, DecidesShown, determined}
-use Rattle.signatures.proofs.line.names_in.Reads as names-in
 use Rattle.signatures.proofs.line.line_part.Reads as line-part
 use Rattle.signatures.proofs.line.line.Reads as line
-
-pub names-in-decides : Decides names-in.Post
-names-in-decides κs a r r′ s s′ = determined
 
 pub line-part-decides : Decides line-part.Post
 line-part-decides κs a r r′ s s′ = determined

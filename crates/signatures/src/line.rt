@@ -24,7 +24,7 @@ pub struct Part {
 }
 
 // Sharp names in keys of sharps, and flat ones in all others.
-pub fn names_in(fifths: i32) -> Called
+fn names_in(fifths: i32) -> Called
     ensures { λ r. ⌜ r ≡ namesIn fifths ⌝ }
 {
     if fifths < MOST_FLATS {

@@ -3,7 +3,7 @@
 --                      and another, at each rooted set, that its digits' sum is at most 35
 --     tones-room       no call's answer has more than 34 bytes
 --     tones-reached    one has 34
-use Rattle.answer.proofs.Kit.{_≡_, refl, sym, Bool, true, false, _&&_, List, [], _∷_, ℕ, zero, suc, _+_, _/_, _%_, _^_, _≤_, arith, T, eqb, leb, eqb→eq, leb→le, length, length-append}
+use Rattle.answer.proofs.Kit.{_≡_, refl, sym, Bool, true, true≢false, false, _&&_, List, [], _∷_, ℕ, zero, suc, _+_, _/_, _%_, _^_, _≤_, arith, T, eqb, leb, eqb→eq, leb→le, length, length-append}
 use Rattle.answer.specs.Words.{bytes}
 use Rattle.answer.specs.Replies.{AtMost}
 use Rattle.answer.proofs.Tests.{left, right, all}
@@ -74,7 +74,7 @@ are-light (w ∷ ws) found = leb (sum w found) 35 && are-light ws found
 light : (table : List Note) (ws : List ℕ) → T (are-right table ws) → (found : List Interval) → T (are-light ws found)
     → (class : ℕ) (root : Note) → noteIn table class ≡ Is root → length (spaced (toneNames spelledBy root found)) ≤ 35
 unfolding are-right are-light
-light [] [] t found l class root e = absurd (let no-way : _≡_ {A = ℕ} 0 1 = cc in let bottom : ⊥ = omega arith in bottom)
+light [] [] t found l class root e = absurd (true≢false cc)
 light [] (w ∷ ws) t found l class root e = absurd t
 light (n ∷ more) [] t found l class root e = absurd t
 light (n ∷ more) (w ∷ ws) t found l zero root e =

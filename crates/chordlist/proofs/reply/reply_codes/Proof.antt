@@ -7,8 +7,8 @@ use Rattle.answer.specs.declared.output.Output.the-variants.{Written, Refused}
 use Rattle.answer.proofs.Rooms.{written}
 use Rattle.names.specs.Names.{flats}
 use Rattle.names.proofs.Named.{flats-brief}
-use Rattle.candidates.specs.Strict.{strictReply}
-use Rattle.candidates.proofs.FirstAbove.{strict-room}
+use Rattle.strict.specs.Strict.{strictReply}
+use Rattle.strict.proofs.FirstAbove.{strict-room}
 use Rattle.chordlist.specs.Replies.{badText, replyText, codesText}
 use Rattle.chordlist.specs.private.Calls.{Printed}
 use Rattle.chordlist.proofs.Printing.{two-more}

@@ -1,5 +1,5 @@
 -- `spelling::tones::tone_word` meets its contract: `get_note` does not refuse the move, and gives a note.
-use Rattle.answer.proofs.Kit.{_≡_, _∙_, ℕ, arith, needs}
+use Rattle.answer.proofs.Kit.{_≡_, _∙_, ℕ, arith, needs, true≢false}
 use Rattle.notes.specs.Notes.{getNote}
 use Rattle.notes.specs.declared.note.NoteAnswer.the-variants.{Is}
 use Rattle.notes.proofs.Sounding.{move-is}
@@ -26,8 +26,7 @@ returns-2 : tie.Need-returns-2
 returns-2 c =
     let e = c .enum-told .given .1 in
     let t = note-given (c .before .before) in
-    let no-way : _≡_ {A = ℕ} 0 1 = cc in
-    absurd (let bottom : ⊥ = omega arith in bottom)
+    absurd (true≢false cc)
 
 pub tone-word-spec : {M : Type 1} → statement M
 tone-word-spec = tie.close (tie.spec

@@ -1,13 +1,13 @@
-// The candidates of keys alone, for hardware: a list with a code that MIDI 1.0 does not allow is refused.
-use crate::lines::candidates_in;
+// The check of a list of codes, and the entry behind it.
 use answer::output::Output;
 use answer::refusal::Checked;
 use answer::refusal::Refusal;
+use candidates::lines::candidates_in;
 use names::table::Names;
 ghost use mathlib.Core.Path.{_≡_};
 ghost use Rattle.answer.specs.Replies.{Answered};
 ghost use Rattle.names.specs.Names.{flats, tableOf};
-ghost use Rattle.candidates.specs.Strict.{keysChecked, strictReply};
+ghost use Rattle.strict.specs.Strict.{keysChecked, strictReply};
 
 const LAST_KEY: u8 = 127;
 

@@ -1,12 +1,12 @@
--- `candidates::strict::check_keys` meets its contract. The loop's invariant: what is refused of the codes that are left is what is refused of all.
+-- `strict::entry::check_keys` meets its contract. The loop's invariant: what is refused of the codes that are left is what is refused of all.
 use Rattle.answer.proofs.Kit.{_≡_, sym, ap, _∙_, List, _∷_, ℕ, _+_, _-_, _≤_, _<_, add-one, arith, length, drop, getD, drop-cons, drop-length, now, lt-leb, le-leb}
 use Rattle.answer.proofs.FirstRefused.{refusedFrom, here, onward, from-0, at-end}
 use Rattle.answer.specs.declared.refusal.Checked.{Checked}
 use Rattle.answer.specs.declared.refusal.Checked.the-variants.{Passed, Refused}
 use Rattle.answer.specs.declared.refusal.Refusal.the-variants.{NotAKey}
-use Rattle.candidates.specs.Strict.{isNoKey, notAKey, keysChecked}
-use Rattle.candidates.proofs.strict.check_keys.Statement.{statement}
-use Rattle.candidates.proofs.strict.check_keys.Tie as tie
+use Rattle.strict.specs.Strict.{isNoKey, notAKey, keysChecked}
+use Rattle.strict.proofs.entry.check_keys.Statement.{statement}
+use Rattle.strict.proofs.entry.check_keys.Tie as tie
 
 abbrev left : ℕ → List ℕ → Checked
 left i codes = refusedFrom isNoKey notAKey i (drop i codes)

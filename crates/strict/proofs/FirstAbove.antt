@@ -15,9 +15,9 @@ use Rattle.answer.specs.declared.refusal.Checked.the-variants.{Passed, Refused}
 use Rattle.answer.specs.declared.refusal.Refusal.the-variants.{NotAKey}
 use Rattle.notes.specs.declared.note.Note.{Note}
 use Rattle.names.proofs.Named.{areBrief}
 use Rattle.candidates.specs.Candidates.{candidatesOf}
-use Rattle.candidates.specs.Strict.{isNoKey, notAKey, keysChecked, strictReply}
+use Rattle.strict.specs.Strict.{isNoKey, notAKey, keysChecked, strictReply}
 use Rattle.candidates.proofs.Listed.{candidates-length}
 
 abbrev pub IsKey : ℕ → Type 0
 IsKey code = code ≤ 127

@@ -1,10 +1,10 @@
--- `candidates::strict::candidates_strict_in` meets its contract: by what the check says.
+-- `strict::entry::candidates_strict_in` meets its contract: by what the check says.
 use Rattle.answer.proofs.Kit.{sym, subst, _∙_, now, needs}
 use Rattle.answer.specs.Replies.{Reply, Answered}
 use Rattle.answer.proofs.Rooms.{refused-by}
-use Rattle.candidates.proofs.FirstAbove.{replied}
-use Rattle.candidates.proofs.strict.candidates_strict_in.Statement.{statement}
-use Rattle.candidates.proofs.strict.candidates_strict_in.Tie as tie
+use Rattle.strict.proofs.FirstAbove.{replied}
+use Rattle.strict.proofs.entry.candidates_strict_in.Statement.{statement}
+use Rattle.strict.proofs.entry.candidates_strict_in.Tie as tie
 
 returns : tie.Need-returns
 returns c =

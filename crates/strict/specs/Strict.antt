@@ -2,14 +2,18 @@
 use mathlib.Core.Bool.{Bool, not}
 use mathlib.Core.List.{List}
 use Prim.Native.Nat.{ℕ}
+use lib.Dec.{leb}
 use Rattle.answer.specs.First.{firstRefused}
 use Rattle.answer.specs.Replies.{Reply, text, unlessRefused}
 use Rattle.answer.specs.declared.refusal.Checked.{Checked}
 use Rattle.answer.specs.declared.refusal.Refusal.{Refusal}
 use Rattle.answer.specs.declared.refusal.Refusal.the-variants.{NotAKey}
 use Rattle.notes.specs.declared.note.Note.{Note}
-use Rattle.candidates.specs.Keys.{isKey}
 use Rattle.candidates.specs.Candidates.{candidatesOf}
+
+-- MIDI 1.0 numbers the keys 0..127: "a code above 127, which MIDI 1.0 does not allow"
+abbrev pub isKey : ℕ → Bool
+isKey code = leb code 127
 
 -- a code that is no key
 abbrev pub isNoKey : ℕ → Bool

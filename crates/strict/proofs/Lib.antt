@@ -1,0 +1,3 @@
+pub mod FirstAbove
+pub mod AsLong
+pub mod Determined
