@@ -9,6 +9,6 @@ by-test : (bass : ℕ) (b : Bool) → eqb bass 255 ≡ b → cond b None (Class 
 by-test bass b e = ap (λ (x : Bool). cond x None (Class bass)) (sym e)
 
 pub bass-from-spec : {M : Type 1} → statement M
-bass-from-spec = tie.close (tie.spec 
+bass-from-spec = tie.close (tie.spec
     (λ c. by-test (c .before .args .bass) true (eq-eqb _ _ (c .if1 .taken)))
     (λ c. by-test (c .before .args .bass) false (ne-eqb _ _ (c .if1 .left))))
