@@ -1,4 +1,4 @@
-pub mod Wide
+pub mod Told
 pub mod Determined
 pub mod Rooms
 pub mod Refusals

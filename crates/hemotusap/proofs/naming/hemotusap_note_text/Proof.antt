@@ -1,9 +1,8 @@
 -- `hemotusap::naming::hemotusap_note_text` meets its contract.
-use Rattle.answer.proofs.Kit.{_≡_, ap, _∙_, arith, now, needs}
+use Rattle.answer.proofs.Kit.{_≡_, ap, _∙_, arith, needs}
 use mir.Facts.{toZ-ofZ}
 use Rattle.notes.specs.Notes.{noteOf}
-use Rattle.hemotusap.specs.Host.{outputNumber}
-use Rattle.hemotusap.proofs.Wide.{output-fits}
+use Rattle.hemotusap.proofs.Told.{output-fits, told}
 use Rattle.hemotusap.proofs.naming.hemotusap_note_text.Statement.{statement}
 use Rattle.hemotusap.proofs.naming.hemotusap_note_text.Tie as tie
 
@@ -14,11 +13,11 @@ returns : tie.Need-returns
 returns c =
     let t = c .before .before .before in
     let made = rw (note (t .before .before)) at (t .text .ensures) in
-    (toZ-ofZ (search needs) ∙ c .written .ensures ∙ ap outputNumber (made .0), made .1)
+    told _ _ made (toZ-ofZ (search needs) ∙ c .written .ensures)
 
 pub hemotusap-note-text-spec : {M : Type 1} → statement M
 hemotusap-note-text-spec = tie.close (tie.spec
     (λ c κs. search needs) (λ c κs. search needs)
-    (λ c κs. output-fits _ (now (c .before .before .before .before .before .before .args .out)) _ (omega arith) (c .before .before .text .ensures .0))
+    (λ c κs. output-fits _ _ (c .before .before .text .ensures) (omega arith))
     (λ c. search needs)
     returns)
