@@ -4,7 +4,7 @@
 --     described       where a descriptor is answered, the number is a rooted set, and the descriptor its own
 --     refused         where a refusal is, it is none
 --     shown-not-rooted, shown-rooted, shown-told, shown-refused     the same of the quality
-use Rattle.answer.proofs.Kit.{_≡_, refl, Bool, true, true≢false, false, ℕ, arith}
+use Rattle.answer.proofs.Kit.{_≡_, refl, Bool, true, true≢false, false, ℕ}
 use Rattle.answer.specs.declared.refusal.Refusal.{Refusal}
 use Rattle.answer.specs.declared.refusal.Refusal.the-variants.{NotASet}
 use Rattle.intervals.specs.Sets.{isRooted}

@@ -1,5 +1,5 @@
--- What a host gets of a call and gives to one: paper 01, "Ported, added, left behind" ("the count of bytes written"; "There bass 255 means
--- none, and a lead above 255 means none"), with the numbers of crate `host`.
+-- What a host gets of a call that writes, and the chord record that it gives: paper 01, "Ported, added, left behind" ("the count of bytes
+-- written"; "a lead above 255 means none"), with the numbers of crate `host`.
 use mathlib.Core.Path.{_≡_}
 use mathlib.Core.Bool.{cond}
 use mathlib.Core.List.{List}

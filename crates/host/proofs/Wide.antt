@@ -5,7 +5,7 @@
 --     as-written, at-lowest  minus a size that they hold, and one that they don't
 --     fits-less              a narrow signed number is a wide one
 --     fits-sum               a number below 2^40 and a narrow signed one, added
-use Rattle.answer.proofs.Kit.{_≡_, refl, sym, ap, subst, _∙_, Bool, true, false, cond, List, ℕ, zero, suc, _+_, _^_, _<_, _≤_, decLt, arith, leb→le, ℤ, pos, negsuc, negℤ, _+ℤ_, _-ℤ_, +ℤ-idl, min-eq-left, min-eq-right, length, mag, lt-ltb, le-ltb}
+use Rattle.answer.proofs.Kit.{_≡_, ap, _∙_, ℕ, zero, suc, _+_, _^_, _<_, _≤_, decLt, arith, ℤ, pos, negsuc, negℤ, _+ℤ_, _-ℤ_, +ℤ-idl, min-eq-left, min-eq-right, mag, lt-ltb, le-ltb}
 use mir.Syntax.{w32, w64}
 use mir.Val.{SFits, toZ}
 use Rattle.host.specs.Numbers.{minus}

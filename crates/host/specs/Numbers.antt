@@ -1,6 +1,6 @@
--- Answers as the numbers that a host gets: paper 01, "Ported, added, left behind" ("A success comes back there as the count of bytes written,
--- the quality number, or for a note 16 × letter + count + 6 (no accidental counts 0); a refusal comes back as minus its number"), and
--- paper 02, Q-1 ("The host gets minus (256 × number + place)").
+-- Answers as the numbers that a host gets, and the bass that it gives: paper 01, "Ported, added, left behind" ("the quality number, or for a note
+-- 16 × letter + count + 6 (no accidental counts 0); a refusal comes back as minus its number"), and paper 02, Q-1 ("The host gets minus
+-- (256 × number + place)").
 use mathlib.Core.Bool.{cond}
 use Prim.Native.Nat.{ℕ, _+_, _*_, _^_, min}
 use lib.Dec.{eqb}

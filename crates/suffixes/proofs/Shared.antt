@@ -1,7 +1,7 @@
 -- At most sixteen rooted sets share a suffix. The suffixes of all 2,048 are read once, as numbers, and those are parted round
 -- the first of them, as a quicksort parts them: one computed test, and the law that it counts.
 --     sixteen        a text has at most so many sets
-use Rattle.answer.proofs.Kit.{_≡_, refl, sym, ap, _∙_, Bool, true, false, cond, _&&_, List, [], _∷_, ℕ, zero, suc, _+_, _*_, _≤_, arith, T, eqb, ltb, ltb→lt, length, eq-eqb, ne-eqb, eqb-true, eqb-false, lt-ltb, ltb-false}
+use Rattle.answer.proofs.Kit.{_≡_, refl, sym, ap, _∙_, Bool, true, false, cond, _&&_, List, [], _∷_, ℕ, zero, suc, _+_, _≤_, arith, T, eqb, ltb, ltb→lt, length, eq-eqb, ne-eqb, eqb-true, eqb-false, lt-ltb, ltb-false}
 use Rattle.answer.specs.Words.{same, low}
 use Rattle.answer.proofs.Tests.{left, right, said, same→eq}
 use Rattle.rules.specs.Suffix.{suffixOf}

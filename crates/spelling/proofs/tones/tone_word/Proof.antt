@@ -1,5 +1,5 @@
 -- `spelling::tones::tone_word` meets its contract: `get_note` does not refuse the move, and gives a note.
-use Rattle.answer.proofs.Kit.{_≡_, _∙_, ℕ, arith, needs, true≢false}
+use Rattle.answer.proofs.Kit.{_≡_, _∙_, needs, true≢false}
 use Rattle.notes.specs.Notes.{getNote}
 use Rattle.notes.specs.declared.note.NoteAnswer.the-variants.{Is}
 use Rattle.notes.proofs.Sounding.{move-is}
