@@ -71,7 +71,7 @@ static void stated_text(struct run *run, int64_t root, int64_t set, const char *
 
 static void stated_tones(struct run *run)
 {
-    stated_text(run, 0, 73, "C Eb F#");
+    stated_text(run, 0, 73, "C Eb Gb");
     stated_text(run, 6, 137, "Gb Bbb Db");
     for (int64_t set = 0; set < SETS; set += 2)
         refuse_set(run, set);

@@ -2,7 +2,7 @@
 
 use std::sync::LazyLock;
 
-use crate::chord::interval::{IntDegree, IntervalSet};
+use crate::chord::interval::IntervalSet;
 use crate::chord::note::{Note, NoteLiteral, NoteModifier};
 use crate::inference::descriptors_from_midi_codes;
 
@@ -43,5 +43,5 @@ fn find_named(class: usize) -> Note {
 pub fn above(root: Note, intervals: IntervalSet) -> impl Iterator<Item = Note> {
     intervals
         .into_iter()
-        .map(move |interval| root.get_note(interval.st(), IntDegree::from(interval).numeric()))
+        .map(move |interval| root.get_note(interval.st(), interval.to_degree().numeric()))
 }

@@ -20,6 +20,7 @@ struct own_fault {
 extern const struct own_fault faults_of_any_codes[];
 extern const struct own_fault faults_of_keys_alone[];
 extern const struct own_fault faults_of_names[];
+extern const struct own_fault faults_of_letters[];
 extern const struct own_fault faults_of_voicing[];
 extern const struct own_fault faults_of_harmony[];
 extern const struct own_fault faults_of_candidate[];

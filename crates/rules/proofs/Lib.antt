@@ -7,3 +7,4 @@ pub mod Short
 pub mod First
 pub mod Counted
 pub mod Walk
+pub mod Tables

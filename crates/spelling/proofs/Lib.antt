@@ -4,4 +4,5 @@ pub mod Replied
 pub mod Computed
 pub mod Sheet
 pub mod Room
+pub mod Letters
 pub mod Determined

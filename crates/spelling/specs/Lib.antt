@@ -1,2 +1,3 @@
 pub mod Tones
+pub mod Letters
 pub mod private

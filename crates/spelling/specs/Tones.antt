@@ -1,4 +1,4 @@
--- Spelled tones: paper 01, "Notes" ("Spelled tones (added)"), for any table of degrees.
+-- Spelled tones: paper 01, "Notes" ("Spelled tones (added)"), for any table of degrees, and paper 02, Q-3, which chooses the table.
 use mathlib.Core.Bool.{cond}
 use mathlib.Core.List.{List, [], _∷_, _++_, map}
 use Prim.Native.Nat.{ℕ}
@@ -6,7 +6,7 @@ use Rattle.answer.specs.Words.{bytes}
 use Rattle.answer.specs.Replies.{Reply, refuse, text}
 use Rattle.answer.specs.declared.refusal.Refusal.the-variants.{NotASet}
 use Rattle.intervals.specs.Sets.{isRooted}
-use Rattle.intervals.specs.Intervals.{semitonesOf, degreeOf, numericOf}
+use Rattle.intervals.specs.Intervals.{semitonesOf, toDegreeOf, numericOf}
 use Rattle.intervals.specs.declared.interval.Interval.{Interval}
 use Rattle.intervals.specs.declared.interval.IntDegree.{IntDegree}
 use Rattle.notes.specs.Notes.{getNote}
@@ -17,9 +17,9 @@ use Rattle.notes.specs.declared.note.NoteAnswer.the-variants as Root
 use Rattle.names.specs.Names.{flats, noteIn}
 use Rattle.rules.specs.Classes.{intervalsOf}
 
--- "its degree by the `From<Interval>` table": the code's table, chosen here
+-- "They should use 004's `to_degree`, which gives fifth" (Q-3): the code's table, chosen here
 abbrev pub spelledBy : Interval → IntDegree
-spelledBy = degreeOf
+spelledBy = toDegreeOf
 
 -- the note of an interval above a root: "through `get_note` with its semitones and its degree"
 unfoldable pub toneOf : (Interval → IntDegree) → Note → Interval → Note

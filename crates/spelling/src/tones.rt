@@ -49,7 +49,7 @@ fn numbered_word(root: Note, number: u32) -> u64
 {
     match Interval::from_number(number) {
         MaybeInterval::Is(interval) => {
-            let degree = interval.degree();
+            let degree = interval.to_degree();
             tone_word(root, interval.st(), degree.numeric())
         }
         MaybeInterval::Nothing => 0,

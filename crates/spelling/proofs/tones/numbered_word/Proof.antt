@@ -17,7 +17,7 @@ returns c =
     let n = c .before in
     let d = n .before .before in
     let i = d .before .before in
-    tone-worded spelledBy _ _ (i .interval .given .0 .0) _ _ _ _ (named i) (d .degree .ensures) (n .before .st .ensures) (n .numeric .ensures) (c .tone-word .ensures)
+    tone-worded spelledBy _ _ (i .interval .given .0 .0) _ _ _ _ (named i) (d .to-degree .ensures) (n .before .st .ensures) (n .numeric .ensures) (c .tone-word .ensures)
 
 returns-2 : tie.Need-returns-2
 unfolding low packed
@@ -29,7 +29,7 @@ tone-word-requires : tie.Need-tone-word-requires
 tone-word-requires c κs =
     let d = c .before .before in
     let i = d .before .before in
-    (i .before .before .before .pre, rw (c .before .st .ensures, c .numeric .ensures, d .degree .ensures) (interval-moves spelledBy (i .interval .given .0 .0)))
+    (i .before .before .before .pre, rw (c .before .st .ensures, c .numeric .ensures, d .to-degree .ensures) (interval-moves spelledBy (i .interval .given .0 .0)))
 
 pub numbered-word-spec : {M : Type 1} → statement M
 numbered-word-spec = tie.close (tie.spec
