@@ -161,9 +161,9 @@ int64_t hemotusap_listing(const uint8_t *suffix, size_t length, uint8_t *out, si
  * F Gb G Ab A Bb B). The set is read as the intervals of a chord, ninths, elevenths and thirteenths
  * among them, and each is spelled by its degree as get_note does, the narrowest first. The degree
  * is that of its name: b5 is a fifth, #11 an eleventh. A note is as note_text writes it, and one
- * space stands between two, as in "C Eb Gb". The plain triad, sixth or seventh chord of each quality
- * stands on the letters 1 3 5, and 6 or 7, counted from the root's. Answers the bytes written,
- * 1..34; no NUL follows them. Refuses: NOT_A_SET, BAD_CLASS, NO_ROOM. */
+ * space stands between two, as in "C Eb Gb". The plain triad, sixth or seventh chord of each
+ * quality stands on the letters 1 3 5, and 6 or 7, counted from the root's. Answers the bytes
+ * written, 1..34; no NUL follows them. Refuses: NOT_A_SET, BAD_CLASS, NO_ROOM. */
 int64_t hemotusap_tones(uint32_t root, uint32_t set, uint8_t *out, size_t room);
 
 /* Writes the candidates of a list of MIDI codes; any byte is one, and its class is the code mod

@@ -3,14 +3,13 @@
 --     crowded-exactly  which rooted sets have two tones on one letter: one test, at each of the 2,048
 --     chord-stands     the triads, sixths and sevenths of the eleven qualities, on any root: each shows its quality, stands on the letters 1 3 5, and 6 or 7,
 --                      counted from the root's, and no two of its tones share one
-use Rattle.answer.proofs.Kit.{_≡_, refl, sym, ap, ap₂, _∙_, Bool, true, false, true≢false, not, _&&_, _||_, List, [], _∷_, map, ℕ, _+_, _-_, _%_, _≤_, arith, T, eqb, leb→le, eqb-true, eqb-false, eq-eqb, ne-eqb}
+use Rattle.answer.proofs.Kit.{_≡_, refl, sym, ap, ap₂, _∙_, Bool, true, false, true≢false, not, _&&_, _||_, List, [], _∷_, map, ℕ, _+_, _-_, _%_, _≤_, arith, T, eqb, leb, leb→le, eqb-true, eqb-false, eq-eqb, ne-eqb}
 use Rattle.answer.specs.Words.{same}
-use Rattle.answer.proofs.Tests.{same→eq}
+use Rattle.answer.proofs.Tests.{left, right, said, same→eq}
 use Rattle.intervals.specs.Sets.{isIn, isSet, isRooted, hasAll, hasNone}
-use Rattle.intervals.specs.Intervals.{numericOf}
+use Rattle.intervals.specs.Intervals.{semitonesOf, numericOf}
 use Rattle.intervals.specs.declared.interval.Interval.{Interval}
 use Rattle.intervals.specs.declared.interval.IntDegree.{IntDegree}
-use Rattle.intervals.specs.declared.interval.IntDegree.the-variants.{Root, Second, Third, Fourth, Fifth, Sixth, Seventh, Ninth, Eleventh, Thirteenth}
 use Rattle.intervals.proofs.Rooted.{at-rooted}
 use Rattle.notes.specs.Notes.{letterAt, spelled, getNote}
 use Rattle.notes.specs.declared.note.Note.{Note}
@@ -22,19 +21,13 @@ use Rattle.rules.proofs.Agree.{same-bool, same-bool→eq}
 use Rattle.rules.proofs.Computed.{classes-computed, named-computed}
 use Rattle.spelling.specs.Tones.{spelledBy, toneOf}
 use Rattle.spelling.specs.Letters.{lettersOf, areApart, isShown, chordOf, degreesIn, twoNinths, twoElevenths, twoFifths, hasLowSeventh, twoSixths, twoSevenths, isCrowded}
+use Rattle.spelling.proofs.Spelled.{interval-moves}
 
 -- degrees are counted from 1
-from-one : (d : IntDegree) → 1 ≤ numericOf d
-from-one Root = leb→le 1 1 tt
-from-one Second = leb→le 1 2 tt
-from-one Third = leb→le 1 3 tt
-from-one Fourth = leb→le 1 4 tt
-from-one Fifth = leb→le 1 5 tt
-from-one Sixth = leb→le 1 6 tt
-from-one Seventh = leb→le 1 7 tt
-from-one Ninth = leb→le 1 9 tt
-from-one Eleventh = leb→le 1 11 tt
-from-one Thirteenth = leb→le 1 13 tt
+from-one : (degrees : Interval → IntDegree) (i : Interval) → 1 ≤ numericOf (degrees i)
+from-one degrees i =
+    let d = numericOf (degrees i) in
+    leb→le 1 d (right (leb (semitonesOf i) 24) (leb 1 d) (left (leb (semitonesOf i) 24 && leb 1 d) (leb d 14) (said _ (interval-moves degrees i))))
 
 -- two degrees above one letter
 same-letter : (l d e : ℕ) → 1 ≤ d → 1 ≤ e → eqb (letterAt l d) (letterAt l e) ≡ eqb (d % 7) (e % 7)
@@ -66,7 +59,7 @@ module _ (degrees : Interval → IntDegree) (root : Note) where
   is-in : (i : Interval) (found : List Interval) → isIn (letter i) (map letter found) ≡ isIn (degree i) (map degree found)
   unfolding isIn toneOf getNote spelled
   is-in i [] = refl
-  is-in i (j ∷ more) = ap₂ _||_ (same-letter (root .letter) (number i) (number j) (from-one (degrees i)) (from-one (degrees j))) (is-in i more)
+  is-in i (j ∷ more) = ap₂ _||_ (same-letter (root .letter) (number i) (number j) (from-one degrees i) (from-one degrees j)) (is-in i more)
 
   apart : (found : List Interval) → areApart (map letter found) ≡ areApart (map degree found)
   unfolding areApart
