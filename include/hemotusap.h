@@ -248,8 +248,9 @@ static inline uint32_t hemotusap_candidate_set(int64_t candidate)
  * bytes written, 74..1147; no NUL follows them. Refuses: NOT_A_SET, BAD_CLASS, NO_ROOM. */
 int64_t hemotusap_harmony(uint32_t root, uint32_t bass, uint32_t set, uint8_t *out, size_t room);
 
-/* Writes a note's name: its letter, then '#' or 'b' once per accidental. Answers the bytes
- * written, 1..7; no NUL follows them. Refuses: BAD_NOTE, NO_ROOM. */
+/* Writes a note's name: its letter, then 'b' once for each flat, or for sharps '#' first if their
+ * count is odd and then 'x' once for each pair of them: G with one to six is G#, Gx, G#x, Gxx, G#xx
+ * and Gxxx. Answers the bytes written, 1..7; no NUL follows them. Refuses: BAD_NOTE, NO_ROOM. */
 int64_t hemotusap_note_text(uint32_t letter, int32_t accidental, uint8_t *out, size_t room);
 
 /* The note that sounds `semitones` above the given one, octaves aside, spelled on the letter

@@ -126,6 +126,7 @@ static void notes(void)
     enum { C = HEMOTUSAP_LETTER_C, E = HEMOTUSAP_LETTER_E, G = HEMOTUSAP_LETTER_G };
     uint8_t text[HEMOTUSAP_TONES_ROOM];
     show("tones of 73 on C", hemotusap_tones(0, 73, text, sizeof text), text);
+    show("tones of 1177 on E", hemotusap_tones(4, 1177, text, sizeof text), text);
     show_note("a major third above Eb", hemotusap_get_note(E, -1, 4, 3));
     show_note("Eb moved as C to G", hemotusap_transpose(C, 0, E, -1, G, 0));
 }

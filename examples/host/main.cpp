@@ -100,6 +100,7 @@ void notes() {
     const hemotusap::note c{letter::C, 0}, e_flat{letter::E, -1}, g{letter::G, 0};
     char text[hemotusap::tones_room];
     show("tones of 73 on C", hemotusap::tones(0, 73, text));
+    show("tones of 1177 on E", hemotusap::tones(4, 1177, text));
     show("a major third above Eb", hemotusap::get_note(e_flat, 4, 3));
     show("Eb moved as C to G", hemotusap::transpose(c, e_flat, g));
 }

@@ -26,9 +26,8 @@ spelling spelled(const hemotusap::chord &chord) {
     std::istringstream names{std::string(*hemotusap::tones(chord.root, chord.set, text))};
     spelling tones{};
     for (std::string name; names >> name;) {
-        const auto sharps = std::count(name.begin(), name.end(), '#');
-        const auto flats = std::count(name.begin(), name.end(), 'b');
-        const int alter = static_cast<int>(sharps - flats);
+        const auto signs = [&name](char sign) { return std::count(name.begin(), name.end(), sign); };
+        const int alter = static_cast<int>(signs('#') + 2 * signs('x') - signs('b'));
         tones[(naturals[letters.find(name[0])] + alter + 12) % 12] = {name[0], alter};
     }
     return tones;

@@ -4,6 +4,7 @@
 #include <string.h>
 
 #include "length.h"
+#include "note_name.h"
 #include "notes.h"
 #include "run.h"
 
@@ -42,6 +43,27 @@ struct bytes bytes_in(const char *line)
         bytes.bytes[bytes.length++] = (uint8_t)number;
     }
     return bytes;
+}
+
+struct names names_in(const char *line)
+{
+    struct names names = {.length = 0};
+    char *to = names.text;
+    const char *const room_end = to + sizeof names.text;
+    const char *end = line + strlen(line);
+    for (const char *from = line; from <= end;) {
+        char letter = *from++;
+        if (*from != ' ')
+            fail("the oracle's line `%s` does not hold the notes expected", line);
+        int64_t count = read_number(line, from, strchr(from + 1, ' ') == NULL ? '\0' : ' ', &from);
+        if (count < -6 || count > 6 || to + HEMOTUSAP_NOTE_TEXT_ROOM >= room_end)
+            fail("the oracle's line `%s` holds no notes, or too many", line);
+        if (to != names.text)
+            *to++ = ' ';
+        to = put_note_name(to, letter, (int)count);
+    }
+    names.length = (size_t)(to - names.text);
+    return names;
 }
 
 struct lines lines_in(const char *line)

@@ -18,6 +18,15 @@ struct bytes {
 
 struct bytes bytes_in(const char *line);
 
+/* Names of notes, a space between. */
+struct names {
+    size_t length;
+    char text[128];
+};
+
+/* `LETTER COUNT` of each, a space between; the letter is a name's, and the signs are the rules'. */
+struct names names_in(const char *line);
+
 /* Candidates as the library writes them, each ended by LF. */
 struct lines {
     int64_t count;

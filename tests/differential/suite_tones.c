@@ -1,10 +1,11 @@
-/* tones, by the oracle: every rooted set above every root; bad sets are refused before bad roots,
-   and both before the room is looked at. */
+/* tones, their letters and counts by the oracle: every rooted set above every root; bad sets are
+   refused before bad roots, and both before the room is looked at. */
 #include <string.h>
 
 #include "draw.h"
 #include "length.h"
 #include "numbers_above.h"
+#include "oracle_lines.h"
 #include "suite.h"
 #include "written.h"
 
@@ -12,15 +13,15 @@
 enum { ROOTS = 12, SETS = 4096, EVERY_ROOM = 61, LONGEST = HEMOTUSAP_TONES_ROOM };
 
 /* The exact room, one less, and a drawn one. */
-static void in_some_rooms(struct run *run, const struct call *call, const char *answer,
+static void in_some_rooms(struct run *run, const struct call *call, const struct names *want,
                           uint64_t state)
 {
-    size_t length = strlen(answer);
+    const size_t length = want->length;
     const size_t rooms[] = {length, length - 1, draw_below(&state, 2 * LONGEST)};
     if (length == 0 || length > LONGEST)
-        fail("the oracle's line `%s` is of no length that tones have", answer);
+        fail("the oracle's tones `%.*s` are of no length that tones have", (int)length, want->text);
     for (unsigned at = 0; at < LENGTH(rooms); at++)
-        expect_written_in(run, call, (const uint8_t *)answer, length, rooms[at]);
+        expect_written_in(run, call, (const uint8_t *)want->text, length, rooms[at]);
 }
 
 static void one_pair(struct run *run, uint32_t root, uint32_t set)
@@ -30,9 +31,10 @@ static void one_pair(struct run *run, uint32_t root, uint32_t set)
     const char *answer = oracle_answer(run, call);
     if (answer == NULL)
         return;
-    in_some_rooms(run, call, answer, draws_of(run->seed, number));
+    const struct names want = names_in(answer);
+    in_some_rooms(run, call, &want, draws_of(run->seed, number));
     if (number % EVERY_ROOM == 0 || set == SETS - 1)
-        expect_written(run, call, (const uint8_t *)answer, strlen(answer));
+        expect_written(run, call, (const uint8_t *)want.text, want.length);
 }
 
 static void every_pair(struct run *run)
@@ -73,6 +75,7 @@ static void stated_tones(struct run *run)
 {
     stated_text(run, 0, 73, "C Eb Gb");
     stated_text(run, 6, 137, "Gb Bbb Db");
+    stated_text(run, 4, 1177, "E G# B D Fx");
     for (int64_t set = 0; set < SETS; set += 2)
         refuse_set(run, set);
     numbers_above(run, SETS, refuse_set);

@@ -196,6 +196,16 @@ void edges() {
     EXPECT(*transpose({letter::C, 0}, {letter::E, -1}, {letter::G, 0}) == (note{letter::B, -1}));
 }
 
+// A moved note, by its name: a double sharp has one byte, and six flats take the whole room.
+void names() {
+    char text[note_text_room], short_text[2];
+    const note third = *get_note({letter::D, 1}, 4, 3);
+    EXPECT(third == (note{letter::F, 2}) && *note_text(third, short_text) == "Fx");
+    EXPECT(note_text({letter::F, 3}, short_text).error() == refusal::no_room);
+    EXPECT(*note_text({letter::F, 3}, text) == "F#x" && *note_text({letter::F, -2}, text) == "Fbb");
+    EXPECT(note_text({letter::C, -6}, text)->size() == note_text_room);
+}
+
 // From keys to elements: the first candidate has no bass, and behind the last there is none.
 void elements() {
     const std::uint8_t keys[] = {64, 60, 67, 72};
@@ -221,6 +231,7 @@ int main() {
     keys();
     parts_of_answers();
     edges();
+    names();
     elements();
     return failures == 0 ? 0 : 1;
 }

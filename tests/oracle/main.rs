@@ -19,7 +19,6 @@ mod parts;
 mod records;
 mod requests;
 mod shown;
-mod tones;
 #[path = "../../docs/src/src/voicings/mod.rs"]
 mod voicings;
 

@@ -1,4 +1,4 @@
-//! Notes by their classes, and those of a chord above its root.
+//! Notes by their classes, those of a chord above its root, and what is told of a note.
 
 use std::sync::LazyLock;
 
@@ -44,4 +44,16 @@ pub fn above(root: Note, intervals: IntervalSet) -> impl Iterator<Item = Note> {
     intervals
         .into_iter()
         .map(move |interval| root.get_note(interval.st(), interval.to_degree().numeric()))
+}
+
+pub fn lettered(note: Note) -> String {
+    format!("{} {}", note.literal, count(note))
+}
+
+pub fn numbered(note: Note) -> String {
+    format!("{} {}", note.literal as u8, count(note))
+}
+
+fn count(note: Note) -> i8 {
+    note.modifier.map_or(0, |modifier| modifier.0)
 }

@@ -4,14 +4,16 @@
 //! - `suffix SET`: what stands behind the root's name for a rooted set
 //! - `candidates N CODE..`: the descriptors, a tab between
 //! - `candidate_parts N CODE..`: of each of them `ROOT BASS SET`, a tab between
-//! - `tones ROOT SET`: the notes of a rooted set's intervals, a space between
+//! - `tones ROOT SET`: of each note of a rooted set's intervals `NAME COUNT`, a space between
+//! - `note_text LETTER COUNT`: `NAME COUNT`
 //! - `get_note LETTER COUNT SEMITONES DEGREE`: `LETTER COUNT`
 //! - `transpose FROM.. NOTE.. TO..`, each `LETTER COUNT`: `LETTER COUNT`
 //! - `harmony ROOT BASS SET`: the element of MusicXML
 //! - `voicing ROOT BASS LEAD N CLASS.. M INTERVAL..` (a lead above 255 is none): the keys, a space between
 //! - `set_voicing ROOT BASS LEAD SET`: `N CLASS.. M INTERVAL..` of the chord of a rooted set, then its keys
 //!
-//! A count of 0 is no modifier and a bass of 255 none, in requests and in answers.
+//! A count of 0 is no modifier and a bass of 255 none, in requests and in answers. A NAME is a letter's: how a count is written is the
+//! asker's (docs/DIFFERENCES.md).
 
 use crate::chord::Chord;
 use crate::chord::interval::{Interval, IntervalSet};
@@ -20,7 +22,7 @@ use crate::chord::quality::{ChordQuality, PcSet};
 use crate::inference::descriptors_from_midi_codes;
 use crate::numbers::{behind_count, below, byte, bytes, counted, end_of, number, spaced, unless};
 use crate::voicings::generate_voicing;
-use crate::{harmony, notes, parts, records, tones};
+use crate::{harmony, notes, parts, records};
 
 type Answer = Result<String, String>;
 
@@ -37,13 +39,14 @@ pub fn answer(request: &str) -> Answer {
         ("candidates", list) => candidates(list),
         ("candidate_parts", list) => candidate_parts(list),
         ("tones", &[root, set]) => tones(root, set),
+        ("note_text", &[letter, count]) => Ok(notes::lettered(note(letter, count)?)),
         ("harmony", &[root, bass, set]) => harmony(root, bass, set),
         ("get_note", &[letter, count, semitones, degree]) => {
             get_note(note(letter, count)?, semitones, degree)
         }
         ("transpose", &[fl, fc, l, c, tl, tc]) => {
             let moved = note(fl, fc)?.transpose(&note(l, c)?, &note(tl, tc)?);
-            Ok(note_text(moved))
+            Ok(notes::numbered(moved))
         }
         ("voicing", &[root, bass, lead, ref lists @ ..]) => {
             Ok(spaced(&keys(&chord(root, bass, lists)?, lead)?))
@@ -89,7 +92,9 @@ fn codes(list: &[i64]) -> Result<Vec<u8>, String> {
 
 fn tones(root: i64, set: i64) -> Answer {
     let set = pc_set(&rooted_classes_in(set)?);
-    tones::tones(below(12, root)? as u8, set)
+    let root = notes::named(byte(root)?)?;
+    let tones: Vec<String> = notes::above(root, set.into()).map(notes::lettered).collect();
+    Ok(tones.join(" "))
 }
 
 fn harmony(root: i64, bass: i64, set: i64) -> Answer {
@@ -100,7 +105,7 @@ fn harmony(root: i64, bass: i64, set: i64) -> Answer {
 }
 
 fn get_note(from: Note, semitones: i64, degree: i64) -> Answer {
-    Ok(note_text(from.get_note(byte(semitones)?, byte(degree)?)))
+    Ok(notes::numbered(from.get_note(byte(semitones)?, byte(degree)?)))
 }
 
 fn set_voicing(chord: &Chord, lead: i64) -> Answer {
@@ -142,11 +147,6 @@ fn note(letter: i64, count: i64) -> Result<Note, String> {
     let count = i8::try_from(count).map_err(|_| format!("{count} is no count"))?;
     let modifier = (count != 0).then_some(NoteModifier(count));
     Ok(Note::new(NoteLiteral::from_u8(letter), modifier))
-}
-
-fn note_text(note: Note) -> String {
-    let count = note.modifier.map_or(0, |modifier| modifier.0);
-    format!("{} {count}", note.literal as u8)
 }
 
 fn note_of_class(class: i64) -> Result<Note, String> {

@@ -3,6 +3,7 @@
 #include <stdio.h>
 #include <string.h>
 
+#include "note_name.h"
 #include "own_faults.h"
 
 enum { LETTERS = 7, CLASSES = 12, FOURTH = 3, FIFTH = 4, TRITONE = 6 };
@@ -14,11 +15,16 @@ struct tone {
     int letter, count;
 };
 
+static int count_read(char sign)
+{
+    return sign == '#' ? 1 : sign == 'x' ? 2 : sign == 'b' ? -1 : 0;
+}
+
 static struct tone tone_read(const char *name)
 {
     struct tone tone = {(int)(strchr(letters, *name) - letters), 0};
-    while (*++name == '#' || *name == 'b')
-        tone.count += *name == '#' ? 1 : -1;
+    while (count_read(*++name) != 0)
+        tone.count += count_read(*name);
     return tone;
 }
 
@@ -31,14 +37,6 @@ static struct tone on_letter(int letter, int wanted)
 {
     int above = (wanted - naturals[letter] + TRITONE + 2 * CLASSES) % CLASSES;
     return (struct tone){letter, above - TRITONE};
-}
-
-static char *put_tone(char *to, struct tone tone)
-{
-    *to++ = letters[tone.letter];
-    for (int count = tone.count; count != 0; count += count < 0 ? 1 : -1)
-        *to++ = count < 0 ? 'b' : '#';
-    return to;
 }
 
 /* Letters are counted from the root's, which is the first. */
@@ -54,7 +52,7 @@ static void put_tritone(char *text, int from, int to)
         bool is_tritone = (pitch(tone) - pitch(root) + CLASSES) % CLASSES == TRITONE;
         if (is_tritone && tone.letter == (root.letter + from) % LETTERS)
             tone = on_letter((root.letter + to) % LETTERS, pitch(tone));
-        text = put_tone(text, tone);
+        text = put_note_name(text, letters[tone.letter], tone.count);
     }
     *text = '\0';
 }

@@ -6,7 +6,8 @@ enum { MOST_TEXT = 4096, TABLES = 3 }; /* an edit may lengthen a text */
 
 static const struct own_fault *const tables[FUNCTIONS][TABLES] = {
     [FUNCTION_candidates] = {faults_of_any_codes, faults_of_names},
-    [FUNCTION_tones] = {faults_of_letters},
+    [FUNCTION_tones] = {faults_of_letters, faults_of_signs},
+    [FUNCTION_note_text] = {faults_of_signs, faults_of_odd_sharps},
     [FUNCTION_voicing] = {faults_of_voicing},
     [FUNCTION_harmony] = {faults_of_harmony},
     [FUNCTION_candidate] = {faults_of_candidate},

@@ -21,6 +21,8 @@ extern const struct own_fault faults_of_any_codes[];
 extern const struct own_fault faults_of_keys_alone[];
 extern const struct own_fault faults_of_names[];
 extern const struct own_fault faults_of_letters[];
+extern const struct own_fault faults_of_signs[];
+extern const struct own_fault faults_of_odd_sharps[];
 extern const struct own_fault faults_of_voicing[];
 extern const struct own_fault faults_of_harmony[];
 extern const struct own_fault faults_of_candidate[];

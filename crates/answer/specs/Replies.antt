@@ -1,10 +1,11 @@
 -- Paper 01, "Numbers given back": what a call that writes answers, and what it leaves in the range that it was lent.
 use mathlib.Core.Path.{_≡_}
-use mathlib.Core.Bool.{Bool, cond}
+use mathlib.Core.Bool.{Bool, not, cond}
 use mathlib.Core.List.{List, _++_}
 use Prim.Native.Nat.{ℕ, _≤_}
-use lib.Dec.{leb}
+use lib.Dec.{T, eqb, leb}
 use lib.ListN.{length, drop}
+use Rattle.answer.specs.Refusals.{toldOf}
 use Rattle.answer.specs.declared.refusal.Checked.{Checked}
 use Rattle.answer.specs.declared.refusal.Checked.the-variants as Checked
 use Rattle.answer.specs.declared.refusal.Refusal.{Refusal}
@@ -31,9 +32,13 @@ unfoldable pub outputOf : Reply → List ℕ → Output
 outputOf (refuse why) room = Refused why
 outputOf (text t) room = cond (fits t room) (Written (length t)) (Refused NoRoom)
 
--- a reply's text, where it has one, has at most so many bytes
+-- a refusal that is not 7, and so not for want of room
+abbrev pub NotForRoom : Refusal → Type 0
+NotForRoom why = T (not (eqb (toldOf why .number) 7))
+
+-- a reply asks for a room of at most so many bytes: its text has no more, and no refusal of its own is for want of room
 abbrev pub AtMost : ℕ → Reply → Type 0
-AtMost n (refuse why) = Unit {0}
+AtMost n (refuse why) = NotForRoom why
 AtMost n (text t) = length t ≤ n
 
 -- the answer where there is room enough: the room's size is in none of it

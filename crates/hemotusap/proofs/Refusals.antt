@@ -3,6 +3,7 @@
 --     byQuotient           a size below 256 is the number itself and tells no place; of another the two are quotient and remainder
 --     strictly             a size below 256 × 11 is the number itself and tells no place; another is 11's, and what it is above tells the place
 --     IsRead               minus a size from which a refusal's number is read, and the place if it tells one
+--     in-a-byte            a refusal's number is none but 1 to 255
 --     refusal-read         so it is with each refusal whose place is below 256
 --     voicing-places       a voicing's refusal tells no place, or one below 16
 --     voicing-read         so number and place are read from what a call for a voicing gives back, in every room
@@ -27,7 +28,7 @@ use Rattle.strict.proofs.FirstAbove.{either, strict-same, strict-refused}
 use Rattle.pool.specs.declared.pool.Tone.{Tone}
 use Rattle.pool.specs.Pool.{tonesOf}
 use Rattle.pairs.specs.Checks.{pairsChecked}
-use Rattle.pairs.proofs.FirstBad.{FirstBad, SaysWhy, Says, checked-says}
+use Rattle.pairs.proofs.FirstBad.{FirstBad, by-why, Says, checked-says}
 use Rattle.voicings.specs.declared.voicing.Chord.{Chord}
 use Rattle.voicings.specs.Voicing.{voicingOf, voicingReply}
 use Rattle.host.specs.Numbers.{minus, sizeOf, refusalNumber}
@@ -73,19 +74,19 @@ size-read number (Place.At place) some small h =
       its-place = (large, omega arith);
     }
 
+pub in-a-byte : (why : Refusal) → (0 < toldOf why .number) × (toldOf why .number < 256)
+in-a-byte NotASet = (omega arith, omega arith)
+in-a-byte BadClass = (omega arith, omega arith)
+in-a-byte TooManyPairs = (omega arith, omega arith)
+in-a-byte (BadPairClass place) = (omega arith, omega arith)
+in-a-byte (BadPairInterval place) = (omega arith, omega arith)
+in-a-byte BadNote = (omega arith, omega arith)
+in-a-byte BadMove = (omega arith, omega arith)
+in-a-byte (NotAKey place) = (omega arith, omega arith)
+in-a-byte NoRoom = (omega arith, omega arith)
+
 pub refusal-read : (why : Refusal) → IsBelow 256 (toldOf why .place) → IsRead byQuotient (toldOf why .number) (toldOf why .place) (refusalNumber why)
 refusal-read why h = size-read (toldOf why .number) (toldOf why .place) (in-a-byte why .0) (in-a-byte why .1) h
-  where
-    in-a-byte : (why : Refusal) → (0 < toldOf why .number) × (toldOf why .number < 256)
-    in-a-byte NotASet = (omega arith, omega arith)
-    in-a-byte BadClass = (omega arith, omega arith)
-    in-a-byte TooManyPairs = (omega arith, omega arith)
-    in-a-byte (BadPairClass place) = (omega arith, omega arith)
-    in-a-byte (BadPairInterval place) = (omega arith, omega arith)
-    in-a-byte BadNote = (omega arith, omega arith)
-    in-a-byte BadMove = (omega arith, omega arith)
-    in-a-byte (NotAKey place) = (omega arith, omega arith)
-    in-a-byte NoRoom = (omega arith, omega arith)
 
 -- a reply's refusal tells no place, or one below a bound
 abbrev pub TellsBelow : ℕ → Reply → Type 0
@@ -103,21 +104,11 @@ module _ (lowest highest : ℕ) (chord : Chord) (classes intervals : List ℕ) w
   unfolding voicingReply
   voicing-places = by-tests (leb (chord .root) 11 && isBass (chord .bass)) (pairsChecked (tonesOf classes intervals)) (checked-says (tonesOf classes intervals))
     where
-      by-why : (why : Refusal) → SaysWhy (tonesOf classes intervals) why → IsBelow 16 (toldOf why .place)
-      by-why TooManyPairs h = tt
-      by-why (BadPairClass place) h = first-below _ _ place h
-      by-why (BadPairInterval place) h = first-below _ _ place h
-      by-why NotASet h = absurd h
-      by-why BadClass h = absurd h
-      by-why BadNote h = absurd h
-      by-why BadMove h = absurd h
-      by-why (NotAKey place) h = absurd h
-      by-why NoRoom h = absurd h
-
       by-tests : (good : Bool) (pairs : Checked) → Says (tonesOf classes intervals) pairs
           → TellsBelow 16 (cond good (unlessRefused pairs (text (voicingOf lowest highest chord classes intervals))) (refuse BadClass))
       by-tests false pairs h = tt
-      by-tests true (Checked.Refused why) h = by-why why h
+      by-tests true (Checked.Refused why) h =
+          by-why (tonesOf classes intervals) (λ (why : Refusal). IsBelow 16 (toldOf why .place)) (λ many. tt) (first-below _ _) (first-below _ _) why h
       by-tests true Checked.Passed h = tt
 
 -- an output's refusal is read from the number that a host gets

@@ -1,8 +1,19 @@
--- A room as large as the header names is enough for every answer of its call: the answer there is the one that no room's size is in, so that none is refused
--- for want of room.
-use Rattle.answer.proofs.Kit.{_≡_, List, ℕ, _≤_, length}
-use Rattle.answer.specs.Replies.{Reply, text, outputOf, unhindered}
+-- A room as large as the header names is enough for every answer of its call: "no such room is refused as NO_ROOM".
+--     Enough         what a host gets there is what no room's size is in, and is not that refusal
+--     only-no-room   no other refusal has its number
+--     enough         so it is where a reply asks for no more bytes
+--     CALL-enough    and with each call that has a room
+use Rattle.answer.proofs.Kit.{_≡_, refl, sym, ap, _∙_, List, ℕ, zero, suc, _+_, _*_, _^_, _<_, _≤_, decLt, arith, eq-eqb, length, ℤ, pos, negℤ}
+use lib.IntN.{natAbs, pos-ne-negsuc}
+use Rattle.answer.specs.Refusals.{toldOf}
+use Rattle.answer.specs.Replies.{Reply, refuse, text, AtMost, unhindered}
+use Rattle.answer.specs.declared.refusal.Place.{Place}
+use Rattle.answer.specs.declared.refusal.Place.the-variants as Place
+use Rattle.answer.specs.declared.refusal.Refusal.{Refusal}
+use Rattle.answer.specs.declared.refusal.Refusal.the-variants.{NoRoom}
 use Rattle.answer.proofs.Rooms.{roomy}
+use Rattle.host.specs.Numbers.{minus, sizeOf, refusalNumber}
+use Rattle.host.proofs.Wide.{as-written, at-lowest}
 use Rattle.rules.specs.Suffix.{suffixReply}
 use Rattle.rules.proofs.Short.{suffix-room}
 use Rattle.listing.specs.Listing.{listingOf}
@@ -26,33 +37,66 @@ use Rattle.voicings.proofs.Laws.{voicing-room}
 use Rattle.intervals.specs.declared.bass.Bass.{Bass}
 use Rattle.musicxml.specs.Replies.{harmonyReply}
 use Rattle.musicxml.proofs.Replied.{harmony-room}
+use Rattle.hemotusap.specs.Host.{outputNumber, HostAnswered}
+use Rattle.hemotusap.proofs.Refusals.{in-a-byte}
 use Rattle.hemotusap.specs.Rooms.{suffixRoom, listingRoom, tonesRoom, candidatesRoom, noteTextRoom, voicingRoom, harmonyRoom}
 
--- of a reply: no room of so many bytes is refused for want of room
 abbrev pub Enough : ℕ → Reply → Type 0
-Enough n reply = (room : List ℕ) → n ≤ length room → outputOf reply room ≡ unhindered reply
+Enough n reply =
+    (room left : List ℕ) (given : ℤ) → n ≤ length room → HostAnswered reply room given left
+    → (given ≡ outputNumber (unhindered reply)) × ¬ (given ≡ refusalNumber NoRoom)
+
+-- minus a size tells the size, up to the lowest number that there is
+size-told : (size : ℕ) → minus size ≡ minus 7 → size ≡ 7
+size-told size e = by-order (decLt (2 ^ 63) size)
+  where
+    unsigned : (n : ℕ) → natAbs (negℤ (pos n)) ≡ n
+    unsigned zero = refl
+    unsigned (suc n) = refl
+
+    by-order : Dec (2 ^ 63 < size) → size ≡ 7
+    by-order (yes more) =
+        let lowest : 2 ^ 63 ≡ 7 = sym (unsigned (2 ^ 63)) ∙ ap natAbs (sym (at-lowest size (omega arith)) ∙ e) in
+        omega arith
+    by-order (no less) = sym (unsigned size) ∙ ap natAbs (sym (as-written size (omega arith)) ∙ e)
+
+pub only-no-room : (why : Refusal) → refusalNumber why ≡ refusalNumber NoRoom → toldOf why .number ≡ 7
+only-no-room why e = by-place (toldOf why .number) (toldOf why .place) (in-a-byte why .0) (size-told _ e)
+  where
+    by-place : (number : ℕ) (place : Place) → 0 < number → sizeOf number place ≡ 7 → number ≡ 7
+    by-place number Place.None some told = told
+    by-place number (Place.At place) some told = omega arith
+
+not-told : (n : ℕ) (reply : Reply) → AtMost n reply → ¬ (outputNumber (unhindered reply) ≡ refusalNumber NoRoom)
+not-told n (refuse why) other e = let no-way : ⊥ = rw (eq-eqb (toldOf why .number) 7 (only-no-room why e)) at other in no-way
+not-told n (text t) fits e = pos-ne-negsuc (length t) 6 e
+
+enough : (n : ℕ) (reply : Reply) → AtMost n reply → Enough n reply
+enough n reply asks room left given h answered =
+    let told : given ≡ outputNumber (unhindered reply) = answered .0 ∙ ap outputNumber (roomy n reply asks room h) in
+    (told, λ e. not-told n reply asks (sym told ∙ e))
 
 pub suffix-enough : (set : ℕ) → Enough suffixRoom (suffixReply set)
-suffix-enough set = roomy suffixRoom (suffixReply set) (suffix-room set)
+suffix-enough set = enough _ (suffixReply set) (suffix-room set)
 
 pub listing-enough : (name : List ℕ) → Enough listingRoom (text (listingOf name))
-listing-enough name = roomy listingRoom (text (listingOf name)) (listing-room name)
+listing-enough name = enough _ (text (listingOf name)) (listing-room name)
 
 pub tones-enough : (root set : ℕ) → Enough tonesRoom (tonesReply spelledBy root set)
-tones-enough root set = roomy tonesRoom (tonesReply spelledBy root set) (tones-room root set)
+tones-enough root set = enough _ (tonesReply spelledBy root set) (tones-room root set)
 
 pub candidates-enough : (names : Names) (codes : List ℕ) → Enough candidatesRoom (text (candidatesOf (tableOf names) codes))
-candidates-enough names codes = roomy candidatesRoom (text (candidatesOf (tableOf names) codes)) (candidates-length (tableOf names) (table-brief names) codes)
+candidates-enough names codes = enough _ (text (candidatesOf (tableOf names) codes)) (candidates-length (tableOf names) (table-brief names) codes)
 
 pub candidates-strict-enough : (names : Names) (codes : List ℕ) → Enough candidatesRoom (strictReply (tableOf names) codes)
-candidates-strict-enough names codes = roomy candidatesRoom (strictReply (tableOf names) codes) (strict-room codes (tableOf names) (table-brief names))
+candidates-strict-enough names codes = enough _ (strictReply (tableOf names) codes) (strict-room codes (tableOf names) (table-brief names))
 
 pub note-text-enough : (note : Note) → Enough noteTextRoom (noteReply signs note)
-note-text-enough note = roomy noteTextRoom (noteReply signs note) (note-text-room note)
+note-text-enough note = enough _ (noteReply signs note) (note-text-room note)
 
 pub voicing-enough : (chord : Chord) (classes intervals : List ℕ) → Enough voicingRoom (voicingReply lowestKey highestKey chord classes intervals)
 voicing-enough chord classes intervals =
-    roomy voicingRoom (voicingReply lowestKey highestKey chord classes intervals) (voicing-room lowestKey highestKey chord classes intervals)
+    enough _ (voicingReply lowestKey highestKey chord classes intervals) (voicing-room lowestKey highestKey chord classes intervals)
 
 pub harmony-enough : (root : ℕ) (bass : Bass) (set : ℕ) → Enough harmonyRoom (harmonyReply flats root bass set)
-harmony-enough root bass set = roomy harmonyRoom (harmonyReply flats root bass set) (harmony-room root bass set)
+harmony-enough root bass set = enough _ (harmonyReply flats root bass set) (harmony-room root bass set)

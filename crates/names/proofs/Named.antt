@@ -2,12 +2,14 @@
 use Rattle.answer.proofs.Kit.{_≡_, refl, sym, ap, _∙_, Bool, true, true≢false, _&&_, List, [], _∷_, map, ℕ, zero, suc, _≤_, arith, T, eqb, leb, leb→le, length, getD}
 use Rattle.answer.specs.Words.{bytes}
 use Rattle.answer.specs.Lines.{lineFeeds}
+use Rattle.answer.specs.declared.refusal.Refusal.{Refusal}
+use Rattle.answer.specs.declared.refusal.Refusal.the-variants.{BadClass}
 use Rattle.answer.proofs.Digits.{isShort, areBytes}
 use Rattle.answer.proofs.Tests.{left, right, is-true}
 use Rattle.notes.specs.Notes.{isNote, semitone}
 use Rattle.notes.specs.NoteText.{letterName, signs, noteName}
 use Rattle.notes.specs.declared.note.Note.{Note}
-use Rattle.notes.specs.declared.note.NoteAnswer.the-variants.{Is}
+use Rattle.notes.specs.declared.note.NoteAnswer.the-variants.{Is, Refused}
 use Rattle.notes.proofs.Names as text
 use Rattle.names.specs.declared.table.Names.{Names}
 use Rattle.names.specs.declared.table.Names.the-variants.{Flats, Sharps}
@@ -108,3 +110,9 @@ pub note-in : (table : List Note) → T (areBrief table) → (c : ℕ) (n : Note
 note-in [] t c n e = absurd (true≢false cc)
 note-in (m ∷ more) t zero n e = let same : m ≡ n = cc in rw same at (first-is m more t)
 note-in (m ∷ more) t (suc c) n e = note-in more (rest-brief m more t) c n e
+
+-- and what it refuses is refusal 2
+pub none-in : (table : List Note) (c : ℕ) (why : Refusal) → noteIn table c ≡ Refused why → BadClass ≡ why
+none-in [] c why e = cc
+none-in (m ∷ more) zero why e = absurd (true≢false cc)
+none-in (m ∷ more) (suc c) why e = none-in more c why e

@@ -1,12 +1,12 @@
 -- The text of a note, by a test of the seven letters at the thirteen heights.
-use Rattle.answer.proofs.Kit.{_≡_, refl, subst, Bool, true, false, cond, _&&_, List, _∷_, ℕ, T, eqb, eqb→eq, ℤ}
+use Rattle.answer.proofs.Kit.{_≡_, refl, subst, Bool, true, false, cond, _&&_, List, _∷_, ℕ, T, eqb, eqb→eq, length, ℤ, negsuc}
 use Rattle.answer.specs.Words.{bytes}
 use Rattle.answer.specs.Lines.{lineFeeds}
 use Rattle.answer.specs.Replies.{AtMost, refuse, text}
 use Rattle.answer.specs.declared.refusal.Refusal.the-variants.{BadNote}
 use Rattle.answer.proofs.Digits.{isShort, areBytes, short-length}
 use Rattle.answer.proofs.Tests.{left, right, all, at}
-use Rattle.notes.specs.Notes.{countOf, isNote}
+use Rattle.notes.specs.Notes.{countOf, noteOf, isNote}
 use Rattle.notes.specs.NoteText.{letterName, signs, noteName, noteReply}
 use Rattle.notes.specs.private.Heights.{heightOf}
 use Rattle.notes.specs.declared.note.Note.{Note}
@@ -48,3 +48,8 @@ note-text-room n = by-note (isNote n) refl
     by-note : (b : Bool) → isNote n ≡ b → AtMost 7 (cond b (text (noteName signs n)) (refuse BadNote))
     by-note true note = short-length _ (name-short n note)
     by-note false other = tt
+
+-- and one has as many: C with six flats
+pub note-text-reached : length (noteName signs (noteOf 0 (negsuc 5))) ≡ 7
+unfolding noteName signs bytes
+note-text-reached = refl

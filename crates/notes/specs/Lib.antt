@@ -1,3 +1,4 @@
 pub mod Notes
 pub mod NoteText
+pub mod Reading
 pub mod private

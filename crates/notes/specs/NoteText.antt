@@ -1,7 +1,7 @@
--- The text of a note: paper 01, "Notes" ("Text: the letter, then `#` or `b` once per count").
+-- The text of a note: paper 01, "Notes" ("Text: the letter, then `#` or `b` once per count"), with the sharps as paper 02 has them, Q-10.
 use mathlib.Core.Bool.{cond}
-use mathlib.Core.List.{List, _∷_}
-use Prim.Native.Nat.{ℕ, suc}
+use mathlib.Core.List.{List, _∷_, _++_}
+use Prim.Native.Nat.{ℕ, suc, _/_, _%_}
 use lib.IntN.{ℤ, pos, negsuc}
 use lib.ListN.{getD, replicate}
 use Rattle.answer.specs.Words.{bytes}
@@ -15,12 +15,12 @@ unfoldable pub letterName : ℕ → ℕ
 letterName l = getD (bytes "CDEFGAB") l 0
 
 -- the byte of a text that has one
-abbrev byte : List ℕ → ℕ
+abbrev pub byte : List ℕ → ℕ
 byte t = getD t 0 0
 
--- how a count is written: `#` or `b` once per count
+-- how a count is written: "for a positive count, `#` first if it is odd, then one `x` for each pair. Flats stay as they are"
 unfoldable pub signs : ℤ → List ℕ
-signs (pos n) = replicate n (byte (bytes "#"))
+signs (pos n) = replicate (n % 2) (byte (bytes "#")) ++ replicate (n / 2) (byte (bytes "x"))
 signs (negsuc n) = replicate (suc n) (byte (bytes "b"))
 
 -- a note's text, where counts are written as `written` says

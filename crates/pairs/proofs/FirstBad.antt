@@ -1,6 +1,7 @@
 -- What the check of some pairs says, in words that ask for no search.
 --     IsGood          a note class up to 11 and an interval up to 22
 --     FirstBad        at most sixteen pairs, those before a place good, and the one there bad in this way
+--     by-why          what is so of the refusals that it says
 --     Says            what each outcome of the check says of the pairs
 --     checked-says    so it is with `pairsChecked`
 --     said-only       and what a check that says so comes to is that outcome: each is given exactly in its case
@@ -41,6 +42,20 @@ SaysWhy tones BadNote = ⊥
 SaysWhy tones BadMove = ⊥
 SaysWhy tones (NotAKey place) = ⊥
 SaysWhy tones NoRoom = ⊥
+
+-- what is so of these three is so of any refusal that the check says
+pub by-why : (tones : List Tone) (P : Refusal → Type 0) → (16 < length tones → P TooManyPairs)
+    → ((place : ℕ) → FirstBad ClassAbove tones place → P (BadPairClass place))
+    → ((place : ℕ) → FirstBad IntervalAbove tones place → P (BadPairInterval place)) → (why : Refusal) → SaysWhy tones why → P why
+by-why tones P many class interval TooManyPairs h = many h
+by-why tones P many class interval (BadPairClass place) h = class place h
+by-why tones P many class interval (BadPairInterval place) h = interval place h
+by-why tones P many class interval NotASet h = absurd h
+by-why tones P many class interval BadClass h = absurd h
+by-why tones P many class interval BadNote h = absurd h
+by-why tones P many class interval BadMove h = absurd h
+by-why tones P many class interval (NotAKey place) h = absurd h
+by-why tones P many class interval NoRoom h = absurd h
 
 abbrev pub Says : List Tone → Checked → Type 0
 Says tones Passed = (length tones ≤ 16) × ((t : Tone) → List·Memᴰ t tones → IsGood t)
@@ -84,17 +99,10 @@ module _ (Bad : Tone → Type 0) (tones : List Tone) (place : ℕ) (bad : (t : T
 
 said-why : (tones : List Tone) (why : Refusal) → SaysWhy tones why → pairsChecked tones ≡ Refused why
 unfolding pairsChecked
-said-why tones TooManyPairs h = rw (lt-leb _ _ h)
-said-why tones (BadPairClass place) h =
-    is-refused ClassAbove tones place (λ t above. rw (lt-leb _ _ above)) h ∙ rw (lt-leb _ _ (h .first .found))
-said-why tones (BadPairInterval place) h =
-    is-refused IntervalAbove tones place (λ t above. rw (le-leb _ _ (above .0), lt-leb _ _ (above .1))) h ∙ rw (le-leb _ _ (h .first .found .0))
-said-why tones NotASet h = absurd h
-said-why tones BadClass h = absurd h
-said-why tones BadNote h = absurd h
-said-why tones BadMove h = absurd h
-said-why tones (NotAKey place) h = absurd h
-said-why tones NoRoom h = absurd h
+said-why tones =
+    by-why tones (λ (why : Refusal). pairsChecked tones ≡ Refused why) (λ h. rw (lt-leb _ _ h))
+    (λ place h. is-refused ClassAbove tones place (λ t above. rw (lt-leb _ _ above)) h ∙ rw (lt-leb _ _ (h .first .found)))
+    (λ place h. is-refused IntervalAbove tones place (λ t above. rw (le-leb _ _ (above .0), lt-leb _ _ (above .1))) h ∙ rw (le-leb _ _ (h .first .found .0)))
 
 pub said-only : (tones : List Tone) (r : Checked) → Says tones r → pairsChecked tones ≡ r
 unfolding pairsChecked

@@ -3,9 +3,9 @@
 --                      and another, at each rooted set, that its digits' sum is at most 35
 --     tones-room       no call's answer has more than 34 bytes
 --     tones-reached    one has 34
-use Rattle.answer.proofs.Kit.{_≡_, refl, sym, Bool, true, true≢false, false, _&&_, List, [], _∷_, ℕ, zero, suc, _+_, _/_, _%_, _^_, _≤_, arith, T, eqb, leb, eqb→eq, leb→le, length, length-append}
+use Rattle.answer.proofs.Kit.{_≡_, refl, sym, subst, Bool, true, true≢false, false, _&&_, List, [], _∷_, ℕ, zero, suc, _+_, _/_, _%_, _^_, _≤_, arith, T, eqb, leb, eqb→eq, leb→le, length, length-append}
 use Rattle.answer.specs.Words.{bytes}
-use Rattle.answer.specs.Replies.{AtMost}
+use Rattle.answer.specs.Replies.{NotForRoom, AtMost}
 use Rattle.answer.proofs.Tests.{left, right, all}
 use Rattle.intervals.specs.Sets.{isRooted}
 use Rattle.intervals.specs.Intervals.{nth, numbered, numberOf}
@@ -16,6 +16,7 @@ use Rattle.notes.specs.declared.note.Note.{Note}
 use Rattle.notes.specs.declared.note.NoteAnswer.{NoteAnswer}
 use Rattle.notes.specs.declared.note.NoteAnswer.the-variants.{Is, Refused}
 use Rattle.names.specs.Names.{flats, flat, noteIn}
+use Rattle.names.proofs.Named.{none-in}
 use Rattle.rules.specs.Classes.{intervalsOf}
 use Rattle.rules.proofs.Computed.{classes-computed}
 use Rattle.spelling.specs.Tones.{spelledBy, toneName, toneNames, spaced, joined, tonesOf, tonesOn, tonesReply}
@@ -28,14 +29,14 @@ weights =
     ∷ 261036632005489043171
     ∷ 179050539699697169562
     ∷ 178041764787851470491
-    ∷ 243634128688543249618
+    ∷ 243616114290033767634
     ∷ 178041729603594725018
     ∷ 261036632005489047779
     ∷ 179050539699697165978
     ∷ 178026283664132384483
     ∷ 243614143965196792986
     ∷ 178041764787966813851
-    ∷ 243634128688692147410
+    ∷ 243616114290048447698
     ∷ []
 
 abbrev weight : ℕ → Interval → ℕ
@@ -100,7 +101,7 @@ joined-length (t ∷ more) h = omega arith
 on-root : (root s : ℕ) → isRooted s ≡ true → (a : NoteAnswer) → noteIn flats root ≡ a → AtMost 34 (tonesOn spelledBy a s)
 unfolding tonesOf tonesOn
 on-root root s is (Is n) e = joined-length (toneNames spelledBy n (intervalsOf s)) (light flats weights flats-right (intervalsOf s) (all-light s is) root n e)
-on-root root s is (Refused why) e = tt
+on-root root s is (Refused why) e = subst NotForRoom (none-in flats root why e) tt
 
 pub tones-room : (root s : ℕ) → AtMost 34 (tonesReply spelledBy root s)
 tones-room root s = by-set (isRooted s) refl

@@ -4,7 +4,7 @@
 --     strict-same      of keys alone the reply is the old one's
 --     strict-same-in   and so are the answer and the bytes that are left, in every room
 --     strict-refused   otherwise it is refusal 11, with the place of the first code above 127
---     strict-room      its text has at most 840 bytes
+--     strict-room      it asks for at most 840 bytes of room
 use Rattle.answer.proofs.Kit.{_≡_, ap, true, false, List, List·Memᴰ, _⊎_, inl, inr, ℕ, _≤_, _<_, T, leb, leb→le, le-leb, lt-leb, leb-false, not-false, not-true}
 use Rattle.answer.proofs.Tests.{said}
 use Rattle.answer.proofs.First.{IsFirst, first-as}
@@ -68,9 +68,7 @@ module _ (codes : List ℕ) where
         replied (Refused (NotAKey (h .place))) (first-refused isNoKey notAKey codes (h .place) (h .code) (first-as (h .first) above not-above))
 
     pub strict-room : T (areBrief table) → AtMost 840 (strictReply table codes)
-    unfolding strictReply
-    strict-room brief = by-check (keysChecked codes)
-      where
-        by-check : (r : Checked) → AtMost 840 (unlessRefused r (text (candidatesOf table codes)))
-        by-check (Refused why) = tt
-        by-check Passed = candidates-length table brief codes
+    unfolding strictReply keysChecked
+    strict-room brief =
+        refused-says isNoKey notAKey (λ (r : Checked). AtMost 840 (unlessRefused r (text (candidatesOf table codes)))) codes
+        (λ h. candidates-length table brief codes) (λ place code h. tt)

@@ -1,7 +1,7 @@
 -- Theorem on the room of a voicing.
 --     voicing-room    two bass keys, sixteen guides, sixteen tensions and the lead: what the header says is enough
 use Rattle.answer.proofs.Kit.{Bool, true, false, cond, _&&_, List, ℕ, suc, _+_, _≤_, arith, leb, length, length-append}
-use Rattle.answer.specs.Replies.{AtMost, refuse, text, unlessRefused}
+use Rattle.answer.specs.Replies.{NotForRoom, AtMost, refuse, text, unlessRefused}
 use Rattle.answer.specs.declared.refusal.Checked.{Checked}
 use Rattle.answer.specs.declared.refusal.Checked.the-variants.{Passed, Refused}
 use Rattle.answer.specs.declared.refusal.Refusal.the-variants.{BadClass}
@@ -10,7 +10,7 @@ use Rattle.pool.specs.declared.pool.Tone.{Tone}
 use Rattle.pool.specs.Pool.{tonesOf}
 use Rattle.pool.specs.Order.{sorted}
 use Rattle.pairs.specs.Checks.{pairsChecked}
-use Rattle.pairs.proofs.FirstBad.{Says, checked-says}
+use Rattle.pairs.proofs.FirstBad.{by-why, Says, checked-says}
 use Rattle.pool.proofs.Sorted.{sorted-length}
 use Rattle.leads.specs.Lead.{leadOf, withoutLast}
 use Rattle.leads.proofs.Led.{fewer}
@@ -39,5 +39,5 @@ module _ (lowest highest : ℕ) (chord : Chord) (classes intervals : List ℕ) w
       by-tests : (good : Bool) (pairs : Checked) → Says (tonesOf classes intervals) pairs
           → AtMost 35 (cond good (unlessRefused pairs (text (voicingOf lowest highest chord classes intervals))) (refuse BadClass))
       by-tests false pairs h = tt
-      by-tests true (Refused why) h = tt
+      by-tests true (Refused why) h = by-why (tonesOf classes intervals) NotForRoom (λ many. tt) (λ place bad. tt) (λ place bad. tt) why h
       by-tests true Passed h = few-keys (h .0)
