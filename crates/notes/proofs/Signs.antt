@@ -47,6 +47,7 @@ letters l k hl hk e = eqb→eq l k (rw (eq-eqb (letterName l) (letterName k) e) 
 pub same-name : (m n : Note) → isNote m ≡ true → isNote n ≡ true → noteName signs m ≡ noteName signs n
     → (m .letter ≡ n .letter) × (countOf (m .accidental) ≡ countOf (n .accidental))
 unfolding noteName
-same-name m n is also e =
-    (letters (m .letter) (n .letter) (letter-less m is) (letter-less n also) (ap (λ (t : List ℕ). getD t 0 0) e),
-    sym (signs-read (countOf (m .accidental))) ∙ ap (λ (t : List ℕ). readIn (drop 1 t)) e ∙ signs-read (countOf (n .accidental)))
+same-name m n is also e = (
+  letters (m .letter) (n .letter) (letter-less m is) (letter-less n also) (ap (λ (t : List ℕ). getD t 0 0) e),
+  sym (signs-read (countOf (m .accidental))) ∙ ap (λ (t : List ℕ). readIn (drop 1 t)) e ∙ signs-read (countOf (n .accidental)),
+)
