@@ -3,7 +3,7 @@
 --     byQuotient           a size below 256 is the number itself and tells no place; of another the two are quotient and remainder
 --     strictly             a size below 256 × 11 is the number itself and tells no place; another is 11's, and what it is above tells the place
 --     IsRead               minus a size from which a refusal's number is read, and the place if it tells one
---     in-a-byte            a refusal's number is none but 1 to 255
+--     in-a-byte            a refusal's number is from 1 to 255
 --     refusal-read         so it is with each refusal whose place is below 256
 --     voicing-places       a voicing's refusal tells no place, or one below 16
 --     voicing-read         so number and place are read from what a call for a voicing gives back, in every room

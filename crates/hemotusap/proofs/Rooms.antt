@@ -1,10 +1,10 @@
 -- A room as large as the header names is enough for every answer of its call: "no such room is refused as NO_ROOM".
 --     Enough         what a host gets there is what no room's size is in, and is not that refusal
---     only-no-room   no other refusal has its number
+--     only-no-room   no refusal but 7 has its number, with whatever place
 --     enough         so it is where a reply asks for no more bytes
 --     CALL-enough    and with each call that has a room
-use Rattle.answer.proofs.Kit.{_≡_, refl, sym, ap, _∙_, List, ℕ, zero, suc, _+_, _*_, _^_, _<_, _≤_, decLt, arith, eq-eqb, length, ℤ, pos, negℤ}
-use lib.IntN.{natAbs, pos-ne-negsuc}
+use Rattle.answer.proofs.Kit.{_≡_, sym, ap, _∙_, List, ℕ, _<_, _≤_, arith, eq-eqb, length, ℤ}
+use lib.IntN.{pos-ne-negsuc}
 use Rattle.answer.specs.Refusals.{toldOf}
 use Rattle.answer.specs.Replies.{Reply, refuse, text, AtMost, unhindered}
 use Rattle.answer.specs.declared.refusal.Place.{Place}
@@ -12,8 +12,8 @@ use Rattle.answer.specs.declared.refusal.Place.the-variants as Place
 use Rattle.answer.specs.declared.refusal.Refusal.{Refusal}
 use Rattle.answer.specs.declared.refusal.Refusal.the-variants.{NoRoom}
 use Rattle.answer.proofs.Rooms.{roomy}
-use Rattle.host.specs.Numbers.{minus, sizeOf, refusalNumber}
-use Rattle.host.proofs.Wide.{as-written, at-lowest}
+use Rattle.host.specs.Numbers.{sizeOf, refusalNumber}
+use Rattle.host.proofs.Wide.{size-told}
 use Rattle.rules.specs.Suffix.{suffixReply}
 use Rattle.rules.proofs.Short.{suffix-room}
 use Rattle.listing.specs.Listing.{listingOf}
@@ -46,22 +46,8 @@ Enough n reply =
     (room left : List ℕ) (given : ℤ) → n ≤ length room → HostAnswered reply room given left
     → (given ≡ outputNumber (unhindered reply)) × ¬ (given ≡ refusalNumber NoRoom)
 
--- minus a size tells the size, up to the lowest number that there is
-size-told : (size : ℕ) → minus size ≡ minus 7 → size ≡ 7
-size-told size e = by-order (decLt (2 ^ 63) size)
-  where
-    unsigned : (n : ℕ) → natAbs (negℤ (pos n)) ≡ n
-    unsigned zero = refl
-    unsigned (suc n) = refl
-
-    by-order : Dec (2 ^ 63 < size) → size ≡ 7
-    by-order (yes more) =
-        let lowest : 2 ^ 63 ≡ 7 = sym (unsigned (2 ^ 63)) ∙ ap natAbs (sym (at-lowest size (omega arith)) ∙ e) in
-        omega arith
-    by-order (no less) = sym (unsigned size) ∙ ap natAbs (sym (as-written size (omega arith)) ∙ e)
-
 pub only-no-room : (why : Refusal) → refusalNumber why ≡ refusalNumber NoRoom → toldOf why .number ≡ 7
-only-no-room why e = by-place (toldOf why .number) (toldOf why .place) (in-a-byte why .0) (size-told _ e)
+only-no-room why e = by-place (toldOf why .number) (toldOf why .place) (in-a-byte why .0) (size-told _ 7 (omega arith) e)
   where
     by-place : (number : ℕ) (place : Place) → 0 < number → sizeOf number place ≡ 7 → number ≡ 7
     by-place number Place.None some told = told

@@ -3,9 +3,10 @@
 --     fits-neg               and minus it
 --     turned, fits-turned    which is 0 less it
 --     as-written, at-lowest  minus a size that they hold, and one that they don't
+--     size-told              minus a size that they hold tells the size
 --     fits-less              a narrow signed number is a wide one
 --     fits-sum               a number below 2^40 and a narrow signed one, added
-use Rattle.answer.proofs.Kit.{_≡_, ap, _∙_, ℕ, zero, suc, _+_, _^_, _<_, _≤_, decLt, arith, ℤ, pos, negsuc, negℤ, _+ℤ_, _-ℤ_, +ℤ-idl, min-eq-left, min-eq-right, mag, lt-ltb, le-ltb}
+use Rattle.answer.proofs.Kit.{_≡_, refl, sym, ap, _∙_, ℕ, zero, suc, _+_, _^_, _<_, _≤_, decLt, arith, ℤ, pos, negsuc, negℤ, natAbs, _+ℤ_, _-ℤ_, +ℤ-idl, min-eq-left, min-eq-right, mag, lt-ltb, le-ltb}
 use mir.Syntax.{w32, w64}
 use mir.Val.{SFits, toZ}
 use Rattle.host.specs.Numbers.{minus}
@@ -32,6 +33,20 @@ as-written n h = rw (min-eq-left h)
 
 pub at-lowest : (n : ℕ) → 2 ^ 63 ≤ n → minus n ≡ negℤ (pos (2 ^ 63))
 at-lowest n h = rw (min-eq-right h)
+
+pub size-told : (n size : ℕ) → size < 2 ^ 63 → minus n ≡ minus size → n ≡ size
+size-told n size h e = by-order (decLt (2 ^ 63) n)
+  where
+    unsigned : (n : ℕ) → natAbs (negℤ (pos n)) ≡ n
+    unsigned zero = refl
+    unsigned (suc n) = refl
+
+    held : natAbs (minus n) ≡ size
+    held = ap natAbs (e ∙ as-written size (omega arith)) ∙ unsigned size
+
+    by-order : Dec (2 ^ 63 < n) → n ≡ size
+    by-order (yes more) = let lowest : 2 ^ 63 ≡ size = sym (unsigned (2 ^ 63)) ∙ ap natAbs (sym (at-lowest n (omega arith))) ∙ held in omega arith
+    by-order (no less) = sym (unsigned n) ∙ ap natAbs (sym (as-written n (omega arith))) ∙ held
 
 pub fits-less : (z : ℤ) → SFits w32 z → SFits w64 z
 fits-less z f = record { sfits = omega (arith, f .sfits) }
