@@ -10,8 +10,8 @@
  * Accidentals: the count of sharps, -6..6; flats are negative, 0 is none.
  *
  * No call allocates, keeps state or calls back: any thread may make any call at any time. Of the
- * stack harmony takes at most 1.4 KiB, the four calls that list candidates at most 0.8 KiB, and any
- * other call at most 0.6 KiB.
+ * stack harmony takes at most 1.4 KiB, the six calls that list candidates or voice a chord at most
+ * 0.8 KiB, and any other call at most 0.4 KiB.
  */
 #ifndef HEMOTUSAP_H
 #define HEMOTUSAP_H
@@ -23,6 +23,7 @@
 enum hemotusap_refusal {
     HEMOTUSAP_NOT_A_SET = 1,          /* a set above 4095 or, but for quality, without class 0 */
     HEMOTUSAP_BAD_CLASS = 2,          /* a root or bass class above 11, NO_BASS excepted */
+    HEMOTUSAP_BAD_RANGE = 16,         /* a lowest key above the highest, or a highest above 127 */
     HEMOTUSAP_TOO_MANY_PAIRS = 3,     /* more than 16 pairs of note class and interval are used */
     HEMOTUSAP_BAD_PAIR_CLASS = 41,    /* a note class above 11 is used; its pair's place is told */
     HEMOTUSAP_BAD_PAIR_INTERVAL = 42, /* an interval above 22 is used; its pair's place is told */
@@ -270,10 +271,18 @@ int64_t hemotusap_transpose(uint32_t from_letter, int32_t from_accidental,
  * class, 0..11, and an interval, 0..22 as enum hemotusap_interval numbers them, and as many pairs
  * are used as the shorter range has; the rest is not looked at. First bass + 36 and root + 48, or
  * with no bass root + 36; then the guides from the lowest up, the tensions from the highest down,
- * and the lead: the key from 51 to 79 nearest to `lead` that a tone has, or to 79 with no lead; 0
- * where no tone may lead. Answers the bytes written, 2..35; no NUL follows them. Refuses:
- * BAD_CLASS, TOO_MANY_PAIRS, BAD_PAIR_CLASS or BAD_PAIR_INTERVAL, NO_ROOM. Of bad pairs the first
- * counts, and its place is told, 0..15; if it is bad in both, the class counts. */
+ * and the lead. A tone's keys are 48 + class and up by octaves, those from `lowest` to `highest`;
+ * one that has none there is left out. The lead is the key nearest to `lead` that a tone has, or to
+ * `highest` with no lead; 0 where no tone may lead. `lead` is a wish, and may be outside the range.
+ * Answers the bytes written, 2..35; no NUL follows them. Refuses: BAD_CLASS, BAD_RANGE,
+ * TOO_MANY_PAIRS, BAD_PAIR_CLASS or BAD_PAIR_INTERVAL, NO_ROOM. Of bad pairs the first counts, and
+ * its place is told, 0..15; if it is bad in both, the class counts. */
+int64_t hemotusap_voicing_within(uint32_t root, uint32_t bass, uint32_t lowest, uint32_t highest,
+                                 const uint8_t *classes, size_t class_count,
+                                 const uint8_t *intervals, size_t interval_count,
+                                 uint32_t lead, uint8_t *out, size_t room);
+
+/* The same from 51 to 79, where each tone has two or three keys: BAD_RANGE is never given. */
 int64_t hemotusap_voicing(uint32_t root, uint32_t bass,
                           const uint8_t *classes, size_t class_count,
                           const uint8_t *intervals, size_t interval_count,

@@ -24,6 +24,7 @@ public:
     enum reason : std::uint32_t {
         not_a_set = HEMOTUSAP_NOT_A_SET,
         bad_class = HEMOTUSAP_BAD_CLASS,
+        bad_range = HEMOTUSAP_BAD_RANGE,
         too_many_pairs = HEMOTUSAP_TOO_MANY_PAIRS,
         bad_pair_class = HEMOTUSAP_BAD_PAIR_CLASS,
         bad_pair_interval = HEMOTUSAP_BAD_PAIR_INTERVAL,
@@ -120,6 +121,12 @@ constexpr bool operator==(const chord &a, const chord &b) noexcept {
     return a.root == b.root && a.bass == b.bass && a.set == b.set;
 }
 constexpr bool operator!=(const chord &a, const chord &b) noexcept { return !(a == b); }
+
+// Keys from the lowest to the highest, both among them.
+struct key_range {
+    std::uint32_t lowest;
+    std::uint32_t highest;
+};
 
 // Room in which every answer fits, for an array of the caller's.
 inline constexpr std::size_t suffix_room = HEMOTUSAP_SUFFIX_ROOM;
@@ -221,6 +228,7 @@ constexpr std::string_view name(refusal why) noexcept {
     switch (why) {
     case refusal::not_a_set: return "not a set";
     case refusal::bad_class: return "bad class";
+    case refusal::bad_range: return "bad range";
     case refusal::too_many_pairs: return "too many pairs";
     case refusal::bad_pair_class: return "bad class of a pair";
     case refusal::bad_pair_interval: return "bad interval of a pair";
@@ -407,15 +415,20 @@ inline result<note> transpose(note from, note moved, note to) noexcept {
         static_cast<std::uint32_t>(to.letter), to.accidental));
 }
 
-// A lead above 255 is none, as in hemotusap.h.
+// A lead above 255 is none, as in hemotusap.h. Without a range it is 51 to 79.
 inline result<range<std::uint8_t>>
 voicing(std::uint32_t root, std::optional<std::uint32_t> bass, range<const std::uint8_t> classes,
         range<const interval> intervals, std::optional<std::uint32_t> lead,
-        range<std::uint8_t> out) noexcept {
+        range<std::uint8_t> out, std::optional<key_range> within = std::nullopt) noexcept {
+    const std::uint32_t below = detail::bass_number(bass);
+    const std::uint32_t wanted = lead.value_or(HEMOTUSAP_NO_LEAD);
+    const std::uint8_t *numbers = detail::bytes(intervals.data());
     return detail::written<range<std::uint8_t>>(
-        out, hemotusap_voicing(root, detail::bass_number(bass), classes.data(), classes.size(),
-                               detail::bytes(intervals.data()), intervals.size(),
-                               lead.value_or(HEMOTUSAP_NO_LEAD), out.data(), out.size()));
+        out, within ? hemotusap_voicing_within(root, below, within->lowest, within->highest,
+                                               classes.data(), classes.size(), numbers,
+                                               intervals.size(), wanted, out.data(), out.size())
+                    : hemotusap_voicing(root, below, classes.data(), classes.size(), numbers,
+                                        intervals.size(), wanted, out.data(), out.size()));
 }
 
 } // namespace hemotusap

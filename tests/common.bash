@@ -92,9 +92,9 @@ prepare_machine() { # TARGET; it sets `compiler` and `emulator`
   esac
 }
 
-# The differential driver, at `program`.
+# The differential driver, at `program`, for the oracle's ranges of keys.
 build_driver() { # [FILES AND WORDS...]
-  "${compiler[@]}" "${c_options[@]}" tests/{boundary,draws,differential}/*.c "$@" "$archive" -o "$program"
+  "${compiler[@]}" "${c_options[@]}" -I"$(dirname "$oracle")" tests/{boundary,draws,differential}/*.c "$@" "$archive" -o "$program"
 }
 
 driver() {

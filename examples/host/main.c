@@ -10,6 +10,8 @@ static const char *why(int64_t number)
     switch (number) {
     case HEMOTUSAP_NOT_A_SET:
         return "not a set";
+    case HEMOTUSAP_BAD_RANGE:
+        return "bad range";
     case HEMOTUSAP_BAD_PAIR_CLASS:
         return "bad class of a pair";
     case HEMOTUSAP_NOT_A_KEY:
@@ -131,19 +133,47 @@ static void notes(void)
     show_note("Eb moved as C to G", hemotusap_transpose(C, 0, E, -1, G, 0));
 }
 
-static void show_voicing(const char *what, uint32_t bass, uint32_t lead)
+/* The keys that an answer counts, or why there are none. */
+static void show_keys(const char *what, int64_t answer, const uint8_t *keys)
+{
+    if (answer < 0) {
+        show(what, answer, keys);
+        return;
+    }
+    printf("%s:", what);
+    for (int64_t at = 0; at < answer; at++)
+        printf(" %d", keys[at]);
+    printf("\n");
+}
+
+/* A major seventh chord on C, on the keys that a host has which names none, and within others. */
+static void voicings(void)
 {
     static const uint8_t classes[] = {0, 4, 7, 11};
     static const uint8_t intervals[] = {
         HEMOTUSAP_INTERVAL_UNISON, HEMOTUSAP_INTERVAL_MAJOR_THIRD,
         HEMOTUSAP_INTERVAL_PERFECT_FIFTH, HEMOTUSAP_INTERVAL_MAJOR_SEVENTH};
+    static const struct {
+        const char *what;
+        uint32_t lowest, highest;
+    } ranges[] = {{"CMa7 on a vibraphone", 51, 89},
+                  {"CMa7 in the left hand", 51, 67},
+                  {"CMa7 from 68 to 67", 68, 67}};
     uint8_t keys[HEMOTUSAP_VOICING_ROOM];
-    int64_t written = hemotusap_voicing(0, bass, classes, sizeof classes, intervals,
-                                        sizeof intervals, lead, keys, sizeof keys);
-    printf("%s:", what);
-    for (int64_t at = 0; at < written; at++)
-        printf(" %d", keys[at]);
-    printf("\n");
+    show_keys("CMa7",
+              hemotusap_voicing(0, HEMOTUSAP_NO_BASS, classes, sizeof classes, intervals,
+                                sizeof intervals, HEMOTUSAP_NO_LEAD, keys, sizeof keys),
+              keys);
+    show_keys("CMa7/E, lead 71",
+              hemotusap_voicing(0, 4, classes, sizeof classes, intervals, sizeof intervals, 71,
+                                keys, sizeof keys),
+              keys);
+    for (size_t at = 0; at < sizeof ranges / sizeof ranges[0]; at++)
+        show_keys(ranges[at].what,
+                  hemotusap_voicing_within(0, HEMOTUSAP_NO_BASS, ranges[at].lowest,
+                                           ranges[at].highest, classes, sizeof classes, intervals,
+                                           sizeof intervals, HEMOTUSAP_NO_LEAD, keys, sizeof keys),
+                  keys);
 }
 
 /* The last is no class, which is told with its place. */
@@ -166,7 +196,6 @@ int main(void)
     elements();
     qualities();
     notes();
-    show_voicing("CMa7", HEMOTUSAP_NO_BASS, HEMOTUSAP_NO_LEAD);
-    show_voicing("CMa7/E, lead 71", 4, 71);
+    voicings();
     bad_pair();
 }

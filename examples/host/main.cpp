@@ -113,6 +113,12 @@ void voicings() {
     const auto none = std::nullopt;
     show("CMa7", hemotusap::voicing(0, none, classes, intervals, none, keys)); // 36 52 59 79
     show("CMa7/E, lead 71", hemotusap::voicing(0, 4, classes, intervals, 71, keys));
+    const auto on = [&](hemotusap::key_range within) {
+        return hemotusap::voicing(0, none, classes, intervals, none, keys, within);
+    };
+    show("CMa7 on a vibraphone", on({51, 89}));  // 36 59 79 88
+    show("CMa7 in the left hand", on({51, 67})); // 36 52 59 67
+    show("CMa7 from 68 to 67", on({68, 67}));    // refused, bad range
 
     const std::array<std::uint8_t, 3> wrong{0, 4, 12}; // the last is no class
     show("classes 0 4 12", hemotusap::voicing(0, none, wrong, intervals, none, keys));

@@ -2,8 +2,8 @@
 #ifndef BAD_PAIRS_H
 #define BAD_PAIRS_H
 
-#include "run.h"
+#include "voicings.h"
 
-void bad_pairs(struct run *run);
+void bad_pairs(struct run *run, chord_maker *make);
 
 #endif

@@ -5,11 +5,12 @@
 #include "bad_pairs.h"
 #include "length.h"
 #include "numbers_above.h"
-#include "voicings.h"
 
 enum { LONGEST = 65552 };
 
 static const struct pool good = {{0, 4, 7}, {0, 4, 8}, 3, 3};
+
+static chord_maker *make; /* for the function whose refusals are tried */
 
 /* Too many pairs, bad ones, and no room: a bad class comes before all of these. */
 static void refuse_classes(struct run *run, int64_t root, int64_t bass)
@@ -20,7 +21,7 @@ static void refuse_classes(struct run *run, int64_t root, int64_t bass)
     static const struct pool none = {.class_count = 0};
     static const struct pool *const pools[] = {&good, &bad_class, &bad_interval, &long_good, &none};
     for (unsigned at = 0; at < LENGTH(pools); at++) {
-        struct chord chord = chord_of(root, bass, NO_LEAD, pools[at]);
+        struct chord chord = make(root, bass, NO_LEAD, pools[at]);
         expect_no_voicing(run, &chord, HEMOTUSAP_BAD_CLASS);
     }
 }
@@ -46,8 +47,9 @@ static void many_pairs(struct run *run, size_t classes, size_t intervals)
     for (unsigned at = 0; at < LENGTH(fills); at++) {
         memset(bytes[0], fills[at][0], classes);
         memset(bytes[1], fills[at][1], intervals);
-        const struct chord chord = {{0, NO_BASS, NO_LEAD},
-                                    {{bytes[0], classes}, {bytes[1], intervals}}};
+        struct chord chord = make(0, NO_BASS, NO_LEAD, &good);
+        chord.ranges[0] = (struct range){bytes[0], classes};
+        chord.ranges[1] = (struct range){bytes[1], intervals};
         expect_no_voicing(run, &chord, HEMOTUSAP_TOO_MANY_PAIRS);
     }
 }
@@ -61,9 +63,10 @@ static void too_many_pairs(struct run *run)
             many_pairs(run, lengths[a], lengths[b]);
 }
 
-void refused_voicings(struct run *run)
+void refused_voicings(struct run *run, chord_maker *maker)
 {
+    make = maker;
     classes_above(run, refuse_root, refuse_bass);
     too_many_pairs(run);
-    bad_pairs(run);
+    bad_pairs(run, make);
 }

@@ -3,8 +3,9 @@
 #ifndef REFUSED_VOICINGS_H
 #define REFUSED_VOICINGS_H
 
-#include "run.h"
+#include "voicings.h"
 
-void refused_voicings(struct run *run);
+/* Of either function. */
+void refused_voicings(struct run *run, chord_maker *maker);
 
 #endif

@@ -10,16 +10,6 @@
 /* Of the chords of sets one in EVERY_LEAD is tried with every lead. */
 enum { EVERY_LEAD = 431, LEADS = 256, LONGEST = 65552 };
 
-static void one_chord(struct run *run, const struct chord *chord, uint64_t state)
-{
-    const struct call call = voicing_of(chord);
-    const char *answer = oracle_answer(run, &call);
-    if (answer == NULL)
-        return;
-    struct bytes keys = bytes_in(answer);
-    expect_voicing(run, chord, (struct range){keys.bytes, keys.length}, state);
-}
-
 static void small_pools(struct run *run)
 {
     static const int64_t leads[] = {NO_LEAD, 0, 51, 60, 66, 79, 255};
@@ -28,23 +18,8 @@ static void small_pools(struct run *run)
         uint64_t state = draws_of(run->seed, number);
         for (unsigned at = 0; at < LENGTH(leads); at++) {
             struct chord chord = chord_of(7, NO_BASS, leads[at], &pool);
-            one_chord(run, &chord, draw(&state));
+            expect_oracle_voicing(run, &chord, draw(&state));
         }
-    }
-}
-
-/* Any number above 255 is no lead. */
-static int64_t drawn_lead(uint64_t *state)
-{
-    static const int64_t none[] = {NO_LEAD,    NO_LEAD + 1, NO_LEAD + 60,
-                                   65536 + 60, INT32_MAX,   INT64_C(1) << 31, UINT32_MAX};
-    switch (draw_below(state, 4)) {
-    case 0:
-        return none[draw_below(state, LENGTH(none))];
-    case 1:
-        return draw_below(state, LEADS);
-    default: /* a key of the range, or just outside */
-        return 48 + draw_below(state, 35);
     }
 }
 
@@ -68,7 +43,7 @@ static void one_set(struct run *run, int64_t root, int64_t bass, int64_t lead, i
         return;
     struct bytes line = bytes_in(answer);
     struct range left = {line.bytes, line.length};
-    struct chord chord = {.numbers = {root, bass, lead}};
+    struct chord chord = chord_of(root, bass, lead, &(struct pool){.class_count = 0});
     chord.ranges[0] = counted(&left);
     chord.ranges[1] = counted(&left);
     expect_voicing(run, &chord, left, state);
@@ -99,13 +74,6 @@ static void chords_of_sets(struct run *run)
         }
 }
 
-static struct chord drawn_chord(uint64_t *state, const struct pool *pool)
-{
-    int64_t root = draw_below(state, CLASSES);
-    int64_t bass = draw_below(state, 2) == 0 ? NO_BASS : draw_below(state, CLASSES);
-    return chord_of(root, bass, drawn_lead(state), pool);
-}
-
 static void unequal_ranges(struct run *run)
 {
     for (size_t classes = 0; classes <= LONGEST_RANGE; classes++)
@@ -114,7 +82,7 @@ static void unequal_ranges(struct run *run)
             struct pool pool = drawn_pool_of(&state, classes, intervals);
             struct chord chord = drawn_chord(&state, &pool);
             if (classes <= MOST_PAIRS || intervals <= MOST_PAIRS)
-                one_chord(run, &chord, state);
+                expect_oracle_voicing(run, &chord, state);
         }
 }
 
@@ -129,7 +97,7 @@ static void long_ranges(struct run *run)
             struct pool pool = drawn_pool_of(&state, used, used);
             struct chord chord = drawn_chord(&state, &pool);
             chord.ranges[at % 2] = (struct range){bytes, lengths[at]};
-            one_chord(run, &chord, state);
+            expect_oracle_voicing(run, &chord, state);
         }
     }
 }
@@ -140,7 +108,7 @@ static void drawn_pools(struct run *run)
         uint64_t state = draws_of(run->seed, number);
         struct pool pool = drawn_pool(&state);
         struct chord chord = drawn_chord(&state, &pool);
-        one_chord(run, &chord, state);
+        expect_oracle_voicing(run, &chord, state);
     }
 }
 
@@ -173,7 +141,7 @@ static void stated_voicings(struct run *run)
     stated_keys(run, NO_BASS, 60, (struct pool){{0, 1}, {0, 16}, 2, 2}, KEYS(36, 0));
     stated_keys(run, 4, NO_LEAD, (struct pool){{0, 4, 7}, {0, 4, 8}, 3, 3},
                 KEYS(40, 48, 52, 72, 79));
-    refused_voicings(run);
+    refused_voicings(run, chord_of);
 }
 
 const struct suite voicing_suite = {"voicing", every_chord, stated_voicings};

@@ -5,24 +5,64 @@
 #include "draw.h"
 #include "length.h"
 #include "lent_call.h"
+#include "oracle_lines.h"
 #include "written.h"
 
 /* Of the chords one in EVERY_ROOM is tried in every room. */
-enum { EVERY_ROOM = 100 };
+enum { EVERY_ROOM = 100, LEADS = 256 };
+
+#define RANGES(pool)                                                                         \
+    {                                                                                        \
+        {(pool)->classes, (pool)->class_count}, {(pool)->intervals, (pool)->interval_count}  \
+    }
 
 struct chord chord_of(int64_t root, int64_t bass, int64_t lead, const struct pool *pool)
 {
-    return (struct chord){{root, bass, lead},
-                          {{pool->classes, pool->class_count},
-                           {pool->intervals, pool->interval_count}}};
+    return (struct chord){&functions[FUNCTION_voicing], {root, bass, lead}, 3, RANGES(pool)};
 }
 
-struct call voicing_of(const struct chord *chord)
+struct chord chord_within(struct key_range keys, int64_t root, int64_t bass, int64_t lead,
+                          const struct pool *pool)
 {
-    return (struct call){.name = "voicing",
-                         .function = &functions[FUNCTION_voicing],
+    return (struct chord){&functions[FUNCTION_voicing_within],
+                          {root, bass, keys.lowest, keys.highest, lead},
+                          5,
+                          RANGES(pool)};
+}
+
+struct chord chord_of_all_keys(int64_t root, int64_t bass, int64_t lead, const struct pool *pool)
+{
+    return chord_within((struct key_range){0, LAST_KEY}, root, bass, lead, pool);
+}
+
+int64_t drawn_lead(uint64_t *state)
+{
+    static const int64_t none[] = {NO_LEAD,    NO_LEAD + 1, NO_LEAD + 60,
+                                   65536 + 60, INT32_MAX,   INT64_C(1) << 31, UINT32_MAX};
+    switch (draw_below(state, 4)) {
+    case 0:
+        return none[draw_below(state, LENGTH(none))];
+    case 1:
+        return draw_below(state, LEADS);
+    default: /* a key of the usual range, or just outside */
+        return 48 + draw_below(state, 35);
+    }
+}
+
+struct chord drawn_chord(uint64_t *state, const struct pool *pool)
+{
+    int64_t root = draw_below(state, CLASSES);
+    int64_t bass = draw_below(state, 2) == 0 ? NO_BASS : draw_below(state, CLASSES);
+    return chord_of(root, bass, drawn_lead(state), pool);
+}
+
+/* The call, which the oracle takes too; it points into the chord. */
+static struct call voicing_of(const struct chord *chord)
+{
+    return (struct call){.name = chord->function->name,
+                         .function = chord->function,
                          .numbers = chord->numbers,
-                         .count = LENGTH(chord->numbers),
+                         .count = chord->count,
                          .inputs = chord->ranges,
                          .input_count = LENGTH(chord->ranges),
                          .room = NO_OUTPUT};
@@ -83,6 +123,16 @@ void expect_voicing(struct run *run, const struct chord *chord, struct range key
         expect_voicing_everywhere(run, chord, keys);
     if (chord->ranges[0].length != chord->ranges[1].length)
         with_bad_surplus(run, chord, keys, &state);
+}
+
+void expect_oracle_voicing(struct run *run, const struct chord *chord, uint64_t state)
+{
+    const struct call call = voicing_of(chord);
+    const char *answer = oracle_answer(run, &call);
+    if (answer == NULL)
+        return;
+    struct bytes keys = bytes_in(answer);
+    expect_voicing(run, chord, (struct range){keys.bytes, keys.length}, state);
 }
 
 void expect_no_voicing_in(struct run *run, const struct chord *chord, int64_t refusal, size_t room)

@@ -3,6 +3,7 @@
 #define VOICINGS_H
 
 #include "pools.h"
+#include "ranges.h"
 #include "run.h"
 
 enum {
@@ -12,14 +13,29 @@ enum {
 };
 
 struct chord {
-    int64_t numbers[3];     /* root, bass, lead */
+    const struct function *function;
+    int64_t numbers[5]; /* root, bass, lead; before the lead the lowest and highest key, if asked */
+    size_t count;
     struct range ranges[2]; /* classes, intervals */
 };
 
-struct chord chord_of(int64_t root, int64_t bass, int64_t lead, const struct pool *pool);
+typedef struct chord chord_maker(int64_t root, int64_t bass, int64_t lead, const struct pool *pool);
 
-/* The call, which the oracle takes too; it points into the chord. */
-struct call voicing_of(const struct chord *chord);
+/* For voicing; and for voicing_within, with every key that MIDI 1.0 has. */
+chord_maker chord_of, chord_of_all_keys;
+
+/* For voicing_within. */
+struct chord chord_within(struct key_range keys, int64_t root, int64_t bass, int64_t lead,
+                          const struct pool *pool);
+
+/* Any number above 255 is no lead. */
+int64_t drawn_lead(uint64_t *state);
+
+/* A chord on any root, over any bass or none. */
+struct chord drawn_chord(uint64_t *state, const struct pool *pool);
+
+/* What the oracle answers, as expect_voicing has it. */
+void expect_oracle_voicing(struct run *run, const struct chord *chord, uint64_t state);
 
 /* These keys, in their exact room and in a drawn one; in every room up to one more for one chord
    in some. Where a range is longer than the other, also with its surplus made bad. */

@@ -67,6 +67,7 @@ void refusals() {
     EXPECT(suffix(2, text).error() == refusal::not_a_set);
     EXPECT(tones(12, 1, text).error() == refusal::bad_class);
     EXPECT(voicing(0, {}, zeros, unisons, {}, keys).error() == refusal::too_many_pairs);
+    EXPECT(voicing(0, {}, {}, {}, {}, keys, key_range{60, 59}).error() == refusal::bad_range);
     EXPECT(note_text({letter{7}, 0}, text).error() == refusal::bad_note);
     EXPECT(transpose({}, {}, {letter::C, 7}).error() == refusal::bad_note);
     EXPECT(get_note({}, 0, 15).error() == refusal::bad_move);
@@ -179,6 +180,29 @@ void parts_of_answers() {
          hemotusap_strict_refusal_number, hemotusap_strict_refusal_place);
 }
 
+// With a range and without: the same from 51 to 79, other keys within others, and a bad one is told
+// before the pairs and behind the classes.
+void ranges() {
+    const std::uint8_t classes[] = {0, 4, 7, 11};
+    const interval intervals[] = {interval::unison, interval::major_third, interval::perfect_fifth,
+                                  interval{23}};
+    std::uint8_t keys[voicing_room];
+    const auto voiced = [&](std::size_t count, std::optional<key_range> within) {
+        const auto found = voicing(0, {}, bytes(classes, count), intervals, {}, keys, within);
+        return std::vector<std::uint8_t>(found->begin(), found->end());
+    };
+    const auto refused = [&](std::uint32_t root, key_range within) {
+        return voicing(root, {}, classes, intervals, {}, keys, within).error();
+    };
+    EXPECT(voiced(3, {}) == voiced(3, key_range{51, 79}) && voiced(3, {}).back() == 79);
+    EXPECT(voiced(3, key_range{51, 89}).back() == 88 && voiced(3, key_range{60, 60}).back() == 60);
+    EXPECT(voiced(3, key_range{0, 47}) == (std::vector<std::uint8_t>{36, 0}));
+    EXPECT(refused(0, {0, 128}) == refusal::bad_range && !refused(0, {0, 128}).place());
+    EXPECT(refused(0, {0, 127}) == refusal::bad_pair_interval);
+    EXPECT(refused(12, {1, 0}) == refusal::bad_class && refused(0, {1, 0}).number() == 16);
+    EXPECT(name(refused(0, {1, 0})) == "bad range");
+}
+
 // Of what is absent or out of place, and of nothing at all.
 void edges() {
     const std::uint8_t classes[] = {0, 4, 7};
@@ -230,6 +254,7 @@ int main() {
     strict();
     keys();
     parts_of_answers();
+    ranges();
     edges();
     names();
     elements();

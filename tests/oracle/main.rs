@@ -16,6 +16,7 @@ mod numbers;
 #[path = "stand-ins/parsing.rs"]
 mod parsing;
 mod parts;
+mod ranges;
 mod records;
 mod requests;
 mod shown;

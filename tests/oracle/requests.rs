@@ -10,6 +10,7 @@
 //! - `transpose FROM.. NOTE.. TO..`, each `LETTER COUNT`: `LETTER COUNT`
 //! - `harmony ROOT BASS SET`: the element of MusicXML
 //! - `voicing ROOT BASS LEAD N CLASS.. M INTERVAL..` (a lead above 255 is none): the keys, a space between
+//! - `voicing_within ROOT BASS LOWEST HIGHEST LEAD N CLASS.. M INTERVAL..`: the same of the copy with these bounds
 //! - `set_voicing ROOT BASS LEAD SET`: `N CLASS.. M INTERVAL..` of the chord of a rooted set, then its keys
 //!
 //! A count of 0 is no modifier and a bass of 255 none, in requests and in answers. A NAME is a letter's: how a count is written is the
@@ -22,7 +23,7 @@ use crate::chord::quality::{ChordQuality, PcSet};
 use crate::inference::descriptors_from_midi_codes;
 use crate::numbers::{behind_count, below, byte, bytes, counted, end_of, number, spaced, unless};
 use crate::voicings::generate_voicing;
-use crate::{harmony, notes, parts, records};
+use crate::{harmony, notes, parts, ranges, records};
 
 type Answer = Result<String, String>;
 
@@ -50,6 +51,10 @@ pub fn answer(request: &str) -> Answer {
         }
         ("voicing", &[root, bass, lead, ref lists @ ..]) => {
             Ok(spaced(&keys(&chord(root, bass, lists)?, lead)?))
+        }
+        ("voicing_within", &[root, bass, lowest, highest, lead, ref lists @ ..]) => {
+            let generate = ranges::generator(lowest, highest)?;
+            Ok(spaced(&generate(&chord(root, bass, lists)?, wish(lead)?)))
         }
         ("set_voicing", &[root, bass, lead, set]) => {
             set_voicing(&chord_of_set(root, bass, set)?, lead)
@@ -115,8 +120,12 @@ fn set_voicing(chord: &Chord, lead: i64) -> Answer {
 }
 
 fn keys(chord: &Chord, lead: i64) -> Result<Vec<u8>, String> {
+    Ok(generate_voicing(chord, wish(lead)?))
+}
+
+fn wish(lead: i64) -> Result<Option<u8>, String> {
     let lead = (lead <= LAST_LEAD).then_some(lead);
-    Ok(generate_voicing(chord, lead.map(byte).transpose()?))
+    lead.map(byte).transpose()
 }
 
 fn chord(root: i64, bass: i64, lists: &[i64]) -> Result<Chord, String> {

@@ -61,8 +61,9 @@ refuse() { # NAME ARGUMENTS...
       unless_note "$4" "$5"
       unless_note "$6" "$7"
       ;;
-    voicing)
+    voicing | voicing_within)
       unless 2 "$2 <= 11 && ($3 <= 11 || $3 == 255)"
+      unless 16 "${7:-0} <= ${8:-0} && ${8:-0} <= 127"
       unless_pairs "$5" "$6"
       ;;
     harmony)

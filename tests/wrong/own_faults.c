@@ -15,6 +15,7 @@ static const struct own_fault *const tables[FUNCTIONS][TABLES] = {
     [FUNCTION_candidates_sharp] = {faults_of_any_codes, faults_of_names},
     [FUNCTION_candidates_strict_sharp] = {faults_of_keys_alone, faults_of_names},
     [FUNCTION_candidate_line] = {faults_of_fifths, faults_of_lines, faults_of_listings},
+    [FUNCTION_voicing_within] = {faults_of_voicing, faults_of_ranges},
 };
 
 const struct own_fault *own_fault(const struct function *function, unsigned number)

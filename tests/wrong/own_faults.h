@@ -24,6 +24,7 @@ extern const struct own_fault faults_of_letters[];
 extern const struct own_fault faults_of_signs[];
 extern const struct own_fault faults_of_odd_sharps[];
 extern const struct own_fault faults_of_voicing[];
+extern const struct own_fault faults_of_ranges[];
 extern const struct own_fault faults_of_harmony[];
 extern const struct own_fault faults_of_candidate[];
 extern const struct own_fault faults_of_fifths[];

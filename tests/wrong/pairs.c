@@ -1,9 +1,11 @@
-/* Faults of voicing: another bad pair told than the first, or that one told otherwise, good ones
-   refused, and refusals out of their order. */
+/* Faults of both voicings: another bad pair told than the first, or that one told otherwise, good
+   ones refused, and refusals out of their order. */
+#include "pairs.h"
+
 #include "answers.h"
 #include "own_faults.h"
 
-enum { CLASSES, INTERVALS, LAST_CLASS = 11, LAST_INTERVAL = 22, SHORTEST = 2 };
+enum { LAST_CLASS = 11, LAST_INTERVAL = 22, SHORTEST = 2 };
 
 /* How a call is refused for what stands at a place; 0: not for that. */
 typedef int64_t refuser(const struct call *call, size_t place);
@@ -40,7 +42,7 @@ static int64_t first(const struct call *call, refuser *refuse, size_t from, size
     return refusal;
 }
 
-static size_t used(const struct call *call)
+size_t used_pairs(const struct call *call)
 {
     size_t classes = call->inputs[CLASSES].length, intervals = call->inputs[INTERVALS].length;
     return classes < intervals ? classes : intervals;
@@ -48,7 +50,7 @@ static size_t used(const struct call *call)
 
 static int64_t last_bad_pair(const struct call *call, int64_t got)
 {
-    size_t place = used(call);
+    size_t place = used_pairs(call);
     while (place > 0 && for_pair(call, place - 1) == 0)
         place--;
     return place > 0 ? for_pair(call, place - 1) : got;
@@ -64,7 +66,7 @@ static int64_t interval_before_class(const struct call *call, int64_t got)
 /* ..and in all. */
 static int64_t classes_before_intervals(const struct call *call, int64_t got)
 {
-    int64_t refusal = first(call, for_class, 0, used(call));
+    int64_t refusal = first(call, for_class, 0, used_pairs(call));
     return refusal != 0 ? refusal : got;
 }
 
@@ -101,7 +103,7 @@ static int64_t room_before_pairs(const struct call *call, int64_t got)
 static int64_t pairs_before(int64_t refusal, const struct call *call, uint8_t *out)
 {
     int64_t got = __real_call_library(call, out);
-    int64_t of_pairs = got == -refusal ? first(call, for_pair, 0, used(call)) : 0;
+    int64_t of_pairs = got == -refusal ? first(call, for_pair, 0, used_pairs(call)) : 0;
     return of_pairs != 0 ? of_pairs : got;
 }
 
@@ -128,18 +130,18 @@ static int64_t refused_or_called(int64_t refusal, const struct call *call, uint8
 static int64_t unused_pairs_too(const struct call *call, uint8_t *out)
 {
     size_t end = call->inputs[CLASSES].length + call->inputs[INTERVALS].length;
-    return refused_or_called(first(call, for_pair, used(call), end), call, out);
+    return refused_or_called(first(call, for_pair, used_pairs(call), end), call, out);
 }
 
 static int64_t class_11_refused(const struct call *call, uint8_t *out)
 {
-    bool has = used(call) > 0 && call->inputs[CLASSES].bytes[0] == LAST_CLASS;
+    bool has = used_pairs(call) > 0 && call->inputs[CLASSES].bytes[0] == LAST_CLASS;
     return refused_or_called(has ? placed_answer(HEMOTUSAP_BAD_PAIR_CLASS, 0) : 0, call, out);
 }
 
 static int64_t interval_22_refused(const struct call *call, uint8_t *out)
 {
-    bool has = used(call) > 0 && call->inputs[INTERVALS].bytes[0] == LAST_INTERVAL;
+    bool has = used_pairs(call) > 0 && call->inputs[INTERVALS].bytes[0] == LAST_INTERVAL;
     return refused_or_called(has ? placed_answer(HEMOTUSAP_BAD_PAIR_INTERVAL, 0) : 0, call, out);
 }
 

@@ -12,6 +12,7 @@ pub enum Refusal {
     BadNote,
     BadMove,
     NotAKey(usize),
+    BadRange,
     NoRoom,
 }
 
@@ -39,6 +40,7 @@ impl Refusal {
             Refusal::BadNote => 5,
             Refusal::BadMove => 6,
             Refusal::NotAKey(_) => 11,
+            Refusal::BadRange => 16,
             Refusal::NoRoom => 7,
         }
     }
@@ -55,6 +57,7 @@ impl Refusal {
             Refusal::BadNote => Place::None,
             Refusal::BadMove => Place::None,
             Refusal::NotAKey(place) => Place::At(place),
+            Refusal::BadRange => Place::None,
             Refusal::NoRoom => Place::None,
         }
     }

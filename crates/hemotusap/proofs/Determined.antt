@@ -18,6 +18,7 @@ use Rattle.hemotusap.proofs.symbols.hemotusap_candidate_count.Reads as 
 use Rattle.hemotusap.proofs.symbols.hemotusap_candidate.Reads as candidate
 use Rattle.hemotusap.proofs.scores.hemotusap_harmony.Reads as harmony
 use Rattle.hemotusap.proofs.voices.hemotusap_voicing.Reads as voicing
+use Rattle.hemotusap.proofs.voices.hemotusap_voicing_within.Reads as voicing-within
 
 pub quality-decides : Decides quality.Post
 quality-decides κs a r r′ s s′ = determined
@@ -64,6 +65,9 @@ tones-decides κs a r r′ s s′ = both
 
 pub voicing-decides : DecidesWith voicing.Post (λ κs s. now (s .1 .1 .1 .1 .1 .0))
 voicing-decides κs a r r′ s s′ = both
+
+pub voicing-within-decides : DecidesWith voicing-within.Post (λ κs s. now (s .1 .1 .1 .1 .1 .1 .1 .0))
+voicing-within-decides κs a r r′ s s′ = both
 
 pub harmony-decides : DecidesWith harmony.Post (λ κs s. now (s .1 .1 .1 .0))
 harmony-decides κs a r r′ s s′ = both

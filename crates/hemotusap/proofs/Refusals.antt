@@ -8,29 +8,26 @@
 --     voicing-places       a voicing's refusal tells no place, or one below 16
 --     voicing-read         so number and place are read from what a call for a voicing gives back, in every room
 --     strict-read          and, strictly, from what the strict entry gives back, in every room, as long as 64 bits hold the formula at each place of the list
-use Rattle.answer.proofs.Kit.{_≡_, refl, Bool, true, false, cond, _&&_, List, ⊎-elim, ℕ, _+_, _-_, _*_, _/_, _%_, _^_, _≤_, _<_, arith, leb, ltb, length, lt-ltb, le-ltb, ℤ, pos, negℤ}
+use Rattle.answer.proofs.Kit.{_≡_, refl, Bool, true, false, cond, List, ⊎-elim, ℕ, _+_, _-_, _*_, _/_, _%_, _^_, _≤_, _<_, arith, ltb, length, lt-ltb, le-ltb, ℤ, pos, negℤ}
 use Rattle.answer.specs.Refusals.{toldOf}
 use Rattle.answer.proofs.First.{first-less}
-use Rattle.answer.specs.Replies.{Reply, refuse, text, unlessRefused, fits, outputOf}
+use Rattle.answer.specs.Replies.{Reply, refuse, text, fits, outputOf}
 use Rattle.answer.specs.declared.output.Output.{Output}
 use Rattle.answer.specs.declared.output.Output.the-variants as Output
-use Rattle.answer.specs.declared.refusal.Checked.{Checked}
-use Rattle.answer.specs.declared.refusal.Checked.the-variants as Checked
 use Rattle.answer.specs.declared.refusal.Place.{Place}
 use Rattle.answer.specs.declared.refusal.Place.the-variants as Place
 use Rattle.answer.specs.declared.refusal.Refusal.{Refusal}
-use Rattle.answer.specs.declared.refusal.Refusal.the-variants.{NotASet, BadClass, TooManyPairs, BadPairClass, BadPairInterval, BadNote, BadMove, NotAKey, NoRoom}
-use Rattle.intervals.specs.Bass.{isBass}
+use Rattle.answer.specs.declared.refusal.Refusal.the-variants.{NotASet, BadClass, TooManyPairs, BadPairClass, BadPairInterval, BadNote, BadMove, NotAKey, BadRange, NoRoom}
 use Rattle.notes.specs.declared.note.Note.{Note}
 use Rattle.candidates.specs.Candidates.{candidatesOf}
 use Rattle.strict.specs.Strict.{strictReply}
 use Rattle.strict.proofs.FirstAbove.{either, strict-same, strict-refused}
 use Rattle.pool.specs.declared.pool.Tone.{Tone}
 use Rattle.pool.specs.Pool.{tonesOf}
-use Rattle.pairs.specs.Checks.{pairsChecked}
-use Rattle.pairs.proofs.FirstBad.{FirstBad, by-why, Says, checked-says}
+use Rattle.pairs.proofs.FirstBad.{FirstBad, by-why}
 use Rattle.voicings.specs.declared.voicing.Chord.{Chord}
-use Rattle.voicings.specs.Voicing.{voicingOf, voicingReply}
+use Rattle.voicings.specs.Voicing.{voicingReply}
+use Rattle.voicings.proofs.Replied.{by-reply}
 use Rattle.host.specs.Numbers.{minus, sizeOf, refusalNumber}
 use Rattle.host.proofs.Wide.{as-written}
 
@@ -83,6 +80,7 @@ in-a-byte (BadPairInterval place) = (omega arith, omega arith)
 in-a-byte BadNote = (omega arith, omega arith)
 in-a-byte BadMove = (omega arith, omega arith)
 in-a-byte (NotAKey place) = (omega arith, omega arith)
+in-a-byte BadRange = (omega arith, omega arith)
 in-a-byte NoRoom = (omega arith, omega arith)
 
 pub refusal-read : (why : Refusal) → IsBelow 256 (toldOf why .place) → IsRead byQuotient (toldOf why .number) (toldOf why .place) (refusalNumber why)
@@ -96,20 +94,12 @@ TellsBelow n (text t) = Unit {0}
 first-below : (Bad : Tone → Type 0) (tones : List Tone) (place : ℕ) → FirstBad Bad tones place → place < 16
 first-below Bad tones place h = omega (arith, first-less (h .first), h .few)
 
-module _ (lowest highest : ℕ) (chord : Chord) (classes intervals : List ℕ) where
-  abbrev reply : Reply
-  reply = voicingReply lowest highest chord classes intervals
-
-  pub voicing-places : TellsBelow 16 reply
-  unfolding voicingReply
-  voicing-places = by-tests (leb (chord .root) 11 && isBass (chord .bass)) (pairsChecked (tonesOf classes intervals)) (checked-says (tonesOf classes intervals))
-    where
-      by-tests : (good : Bool) (pairs : Checked) → Says (tonesOf classes intervals) pairs
-          → TellsBelow 16 (cond good (unlessRefused pairs (text (voicingOf lowest highest chord classes intervals))) (refuse BadClass))
-      by-tests false pairs h = tt
-      by-tests true (Checked.Refused why) h =
-          by-why (tonesOf classes intervals) (λ (why : Refusal). IsBelow 16 (toldOf why .place)) (λ many. tt) (first-below _ _) (first-below _ _) why h
-      by-tests true Checked.Passed h = tt
+pub voicing-places : (chord : Chord) (classes intervals : List ℕ) → TellsBelow 16 (voicingReply chord classes intervals)
+voicing-places chord classes intervals =
+    let tones = tonesOf classes intervals in
+    by-reply chord classes intervals (TellsBelow 16) tt tt
+    (by-why tones (λ (why : Refusal). IsBelow 16 (toldOf why .place)) (λ many. tt) (first-below _ _) (first-below _ _))
+    (λ few. tt)
 
 -- an output's refusal is read from the number that a host gets
 abbrev pub RefusalRead : Reading → Output → Type 0
@@ -135,8 +125,8 @@ output-read (refuse why) room h = refusal-read why (by-place (toldOf why .place)
     by-place (Place.At place) h = omega arith
 output-read (text t) room h = text-read byQuotient t room (refusal-read NoRoom tt)
 
-pub voicing-read : (lowest highest : ℕ) (chord : Chord) (classes intervals room : List ℕ) → RefusalRead byQuotient (outputOf (voicingReply lowest highest chord classes intervals) room)
-voicing-read lowest highest chord classes intervals room = output-read _ room (voicing-places lowest highest chord classes intervals)
+pub voicing-read : (chord : Chord) (classes intervals room : List ℕ) → RefusalRead byQuotient (outputOf (voicingReply chord classes intervals) room)
+voicing-read chord classes intervals room = output-read _ room (voicing-places chord classes intervals)
 
 key-read : (place : ℕ) → 256 * 11 + place ≤ 2 ^ 63 → IsRead strictly 11 (Place.At place) (refusalNumber (NotAKey place))
 key-read place h =

@@ -30,7 +30,6 @@ use Rattle.strict.proofs.FirstAbove.{strict-room}
 use Rattle.notes.specs.declared.note.Note.{Note}
 use Rattle.notes.specs.NoteText.{signs, noteReply}
 use Rattle.notes.proofs.Names.{note-text-room}
-use Rattle.keys.specs.Range.{lowestKey, highestKey}
 use Rattle.voicings.specs.declared.voicing.Chord.{Chord}
 use Rattle.voicings.specs.Voicing.{voicingReply}
 use Rattle.voicings.proofs.Laws.{voicing-room}
@@ -80,9 +79,8 @@ candidates-strict-enough names codes = enough _ (strictReply (tableOf names) cod
 pub note-text-enough : (note : Note) → Enough noteTextRoom (noteReply signs note)
 note-text-enough note = enough _ (noteReply signs note) (note-text-room note)
 
-pub voicing-enough : (chord : Chord) (classes intervals : List ℕ) → Enough voicingRoom (voicingReply lowestKey highestKey chord classes intervals)
-voicing-enough chord classes intervals =
-    enough _ (voicingReply lowestKey highestKey chord classes intervals) (voicing-room lowestKey highestKey chord classes intervals)
+pub voicing-enough : (chord : Chord) (classes intervals : List ℕ) → Enough voicingRoom (voicingReply chord classes intervals)
+voicing-enough chord classes intervals = enough _ (voicingReply chord classes intervals) (voicing-room chord classes intervals)
 
 pub harmony-enough : (root : ℕ) (bass : Bass) (set : ℕ) → Enough harmonyRoom (harmonyReply flats root bass set)
 harmony-enough root bass set = enough _ (harmonyReply flats root bass set) (harmony-room root bass set)

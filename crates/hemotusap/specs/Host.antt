@@ -33,5 +33,5 @@ abbrev pub leadFrom : ℕ → Lead
 leadFrom lead = cond (leb lead 255) (Lead.Key lead) Lead.None
 
 -- a chord record of the host's numbers
-abbrev pub chordFrom : ℕ → ℕ → ℕ → Chord
-chordFrom root bass lead = record { root = root; bass = bassFrom bass; lead = leadFrom lead }
+abbrev pub chordFrom : ℕ → ℕ → ℕ → ℕ → ℕ → Chord
+chordFrom root bass lowest highest lead = record { root = root; bass = bassFrom bass; lowest = lowest; highest = highest; lead = leadFrom lead }

@@ -1,14 +1,13 @@
 -- Where tones and keys come from.
 --     one-of           of a list that has an element or not
 --     in-others, in-chosen   tones of other intervals, and chosen tones, are tones
+--     chosen-next, chosen-has, chosen-all   of one set of intervals alone: tone by tone; each is of that set, and all that are
 --     placed-from      a key that some tones are placed at is a key of one of them
---     none-nearer      no key is nearer than the nearest
---     no-keys          where none is the nearest there is none
-use Rattle.answer.proofs.Kit.{_≡_, refl, sym, subst, Bool, true, false, cond, _||_, List, [], _∷_, List·Memᴰ, List·Memᴰ·head, List·Memᴰ·tail, List·Memᴰ·not-nil, List·Memᴰ·cases-cons, _⊎_, ⊎-elim, ℕ, zero, suc, _≤_, _<_, decLt, arith, eqb, lt-ltb, le-ltb}
-use mathlib.Core.Option.{Option, none, some, Option·elim, IsSome}
+use Rattle.answer.proofs.Kit.{_≡_, refl, sym, ap, subst, _∙_, Bool, true, false, cond, _||_, or-false, List, [], _∷_, List·Memᴰ, List·Memᴰ·head, List·Memᴰ·tail, List·Memᴰ·not-nil, List·Memᴰ·cases-cons, ⊎-elim, ℕ, zero, suc, _%_, _^_, zero-div, eqb}
+use mathlib.Core.Option.{Option, none, some, Option·elim}
 use Rattle.intervals.specs.Sets.{has, without}
 use Rattle.pool.specs.declared.pool.Tone.{Tone}
-use Rattle.keys.specs.Choice.{distance, ToneKey, keysOfTones, unlessNearer, nearest, chosen, otherTones, placedIn}
+use Rattle.keys.specs.Choice.{ToneKey, keysOfTones, nearest, chosen, otherTones, placedIn}
 use Rattle.keys.proofs.Winner.{KeyOf, of-more, from-tones, IsOne, is-one}
 
 pub one-of : {A : Type 0} {a x : A} {l m n : List A} (b : Bool) → List·Memᴰ a (cond b (x ∷ l) m) → (List·Memᴰ a l → List·Memᴰ a n) → (List·Memᴰ a m → List·Memᴰ a n)
@@ -31,6 +30,38 @@ in-chosen whole once [] t h = h
 in-chosen whole once (x ∷ l) t h =
     one-of (has whole (x .interval) || has once (x .interval)) h (in-chosen whole (without (x .interval) once) l t) (in-chosen whole once l t)
 
+-- the empty set has nothing
+none-in : (k : ℕ) → has 0 k ≡ false
+unfolding has
+none-in k = ap (λ (x : ℕ). eqb (x % 2) 1) (zero-div (2 ^ k))
+
+-- of a whole set of intervals, and of no other
+module _ (whole : ℕ) where
+  pub chosen-next : (t : Tone) (l : List Tone) → chosen whole 0 (t ∷ l) ≡ cond (has whole (t .interval)) (t ∷ chosen whole 0 l) (chosen whole 0 l)
+  unfolding chosen without
+  chosen-next t l = rw (none-in (t .interval), or-false (has whole (t .interval))) refl
+
+  pub chosen-has : (l : List Tone) (t : Tone) → List·Memᴰ t (chosen whole 0 l) → has whole (t .interval) ≡ true
+  unfolding chosen
+  chosen-has [] t h = absurd (List·Memᴰ·not-nil h)
+  chosen-has (x ∷ l) t h = by-test (has whole (x .interval)) refl (subst (List·Memᴰ t) (chosen-next x l) h) (chosen-has l t)
+    where
+      by-test : (b : Bool) → has whole (x .interval) ≡ b → List·Memᴰ t (cond b (x ∷ chosen whole 0 l) (chosen whole 0 l))
+          → (List·Memᴰ t (chosen whole 0 l) → has whole (t .interval) ≡ true) → has whole (t .interval) ≡ true
+      by-test true e h f = ⊎-elim (λ (same : t ≡ x). ap (λ (u : Tone). has whole (u .interval)) same ∙ e) f (List·Memᴰ·cases-cons h)
+      by-test false e h f = f h
+
+  pub chosen-all : (l : List Tone) (t : Tone) → List·Memᴰ t l → has whole (t .interval) ≡ true → List·Memᴰ t (chosen whole 0 l)
+  chosen-all [] t h is = absurd (List·Memᴰ·not-nil h)
+  chosen-all (x ∷ l) t h is = subst (List·Memᴰ t) (sym (chosen-next x l)) (⊎-elim first (λ more. behind (has whole (x .interval)) (chosen-all l t more is)) (List·Memᴰ·cases-cons h))
+    where
+      first : t ≡ x → List·Memᴰ t (cond (has whole (x .interval)) (x ∷ chosen whole 0 l) (chosen whole 0 l))
+      first same = rw (sym (ap (λ (u : Tone). has whole (u .interval)) same) ∙ is) (List·Memᴰ·head same)
+
+      behind : (b : Bool) → List·Memᴰ t (chosen whole 0 l) → List·Memᴰ t (cond b (x ∷ chosen whole 0 l) (chosen whole 0 l))
+      behind true m = List·Memᴰ·tail m
+      behind false m = m
+
 module _ (lowest limit wanted : ℕ) where
   pub placed-from : (n : ℕ) (tones : List Tone) (key : ℕ) → List·Memᴰ key (placedIn lowest limit wanted n tones) → KeyOf lowest limit tones key
   unfolding placedIn Option·elim
@@ -47,32 +78,3 @@ module _ (lowest limit wanted : ℕ) where
           (λ (e : key ≡ k .key). subst (KeyOf lowest limit tones) (sym e) (from-tones lowest limit tones k one))
           (λ more. of-more lowest limit (in-others (k .interval) tones) (rest (k .interval) more))
           (List·Memᴰ·cases-cons h)
-
-module _ (wanted : ℕ) where
-  -- how far the nearest is, if there is one
-  abbrev pub IsLeast : Option ToneKey → ToneKey → Type 0
-  IsLeast none k = ⊥
-  IsLeast (some nearest) k = distance wanted (nearest .key) ≤ distance wanted (k .key)
-
-  pub none-nearer : (l : List ToneKey) (k : ToneKey) → List·Memᴰ k l → IsLeast (nearest wanted l) k
-  unfolding nearest
-  none-nearer [] k h = absurd (List·Memᴰ·not-nil h)
-  none-nearer (x ∷ l) k h = by-case (nearest wanted l) (λ more. none-nearer l k more) (List·Memᴰ·cases-cons h)
-    where
-      -- the earlier of two, unless the later is nearer, is no farther than either
-      no-farther : (later : ToneKey) → (distance wanted (unlessNearer wanted x (some later) .key) ≤ distance wanted (x .key)) × (distance wanted (unlessNearer wanted x (some later) .key) ≤ distance wanted (later .key))
-      no-farther later = by-order (decLt (distance wanted (later .key)) (distance wanted (x .key)))
-        where
-          by-order : Dec (distance wanted (later .key) < distance wanted (x .key))
-              → (distance wanted (unlessNearer wanted x (some later) .key) ≤ distance wanted (x .key)) × (distance wanted (unlessNearer wanted x (some later) .key) ≤ distance wanted (later .key))
-          by-order (yes less) = rw (lt-ltb (distance wanted (later .key)) (distance wanted (x .key)) less) (omega arith, omega arith)
-          by-order (no more) = let most : distance wanted (x .key) ≤ distance wanted (later .key) = omega arith in rw (le-ltb (distance wanted (later .key)) (distance wanted (x .key)) most) (omega arith, omega arith)
-
-      by-case : (o : Option ToneKey) → (List·Memᴰ k l → IsLeast o k) → (k ≡ x) ⊎ List·Memᴰ k l → IsLeast (some (unlessNearer wanted x o)) k
-      by-case none rest there = ⊎-elim (λ e. rw e (omega arith)) (λ more. absurd (rest more)) there
-      by-case (some later) rest there = ⊎-elim (λ e. rw e (no-farther later .0)) (λ more. let less = rest more in omega (arith, no-farther later .1)) there
-
-  pub no-keys : (l : List ToneKey) → nearest wanted l ≡ none → l ≡ []
-  unfolding nearest
-  no-keys [] e = refl
-  no-keys (x ∷ l) e = absurd (subst IsSome e tt)

@@ -1,5 +1,6 @@
 -- A climb over the keys of a class, from its own up by twelves: those below the range are passed; the next key is nearer to the wanted one
 -- exactly where that is beyond half the way to it, and from the first that is not, none is.
+--     under, over    how far a wanted key is from one above it, and from one that is not
 --     passed, taken, past-limit    which keys a climb has
 --     reached        some octaves above the first, each nearer than the one before, and the next not below the limit or not nearer: the nearest
 --     no-key         where the first is not below the limit there is none
@@ -9,11 +10,10 @@ use Rattle.keys.specs.Choice.{keysFrom, distance, ToneKey, toneKey, unle
 use Rattle.keys.specs.private.Ranked.{octavesBelow, firstKey}
 use Rattle.keys.proofs.Winner.{unless-joins}
 
--- how far a wanted key is from another, by which is the greater
-under : (w k : ℕ) → w < k → distance w k ≡ k - w
+pub under : (w k : ℕ) → w < k → distance w k ≡ k - w
 under w k h = rw (lt-ltb w k h)
 
-over : (w k : ℕ) → k ≤ w → distance w k ≡ w - k
+pub over : (w k : ℕ) → k ≤ w → distance w k ≡ w - k
 over w k h = rw (le-ltb w k h)
 
 no-nearer : (w key k : ℕ) → w ≤ key + 6 → key + 12 ≤ k → distance w key ≤ distance w k

@@ -3,5 +3,7 @@ pub mod Climb
 pub mod Best
 pub mod Kept
 pub mod Among
+pub mod Earliest
+pub mod Turns
 pub mod Laws
 pub mod Determined

@@ -3,7 +3,9 @@
 --     nearest-append    the nearest of two lists is that of their nearest
 --     is-one            the nearest of some keys is one of them
 --     KeyOf, from-tones    a key of some tones is a tone's: within the range, and some octaves above its class's own
+--     to-tones          and a tone's key is one of theirs
 use Rattle.answer.proofs.Kit.{_≡_, refl, sym, ap, subst, _∙_, Bool, true, false, cond, _&&_, List, [], _∷_, _++_, List·Memᴰ, List·Memᴰ·head, List·Memᴰ·tail, List·Memᴰ·not-nil, List·Memᴰ·cases-cons, List·Memᴰ·append-cases, Memᴰ·of-map, ⊎-elim, ℕ, zero, suc, _+_, _%_, _≤_, _<_, decLt, arith, leb, ltb, leb→le, ltb→lt, lt-ltb, le-ltb}
+use mathlib.Core.List.{Memᴰ·append-left, Memᴰ·append-right}
 use mathlib.Core.Option.{Option, none, some}
 use Rattle.answer.proofs.Tests.{left, right, said}
 use Rattle.pool.specs.declared.pool.Tone.{Tone}
@@ -119,3 +121,12 @@ module _ (lowest limit : ℕ) where
       own m =
           let one = Memᴰ·of-map (toneKey (t .interval)) (keysOf lowest limit (t .class)) m in
           record { tone = t; among = List·Memᴰ·head refl; key-is = subst (λ (x : ToneKey). IsKey (t .class) (x .key)) (one .2) (is-key (t .class) (one .0) (one .1)) }
+
+  pub to-tones : (tones : List Tone) (t : Tone) (k : ToneKey) → List·Memᴰ t tones → List·Memᴰ k (keysOfTone lowest limit t) → List·Memᴰ k (keysOfTones lowest limit tones)
+  unfolding keysOfTones
+  to-tones [] t k h m = absurd (List·Memᴰ·not-nil h)
+  to-tones (x ∷ l) t k h m =
+      ⊎-elim
+      (λ (same : t ≡ x). Memᴰ·append-left (keysOfTones lowest limit l) (subst (λ (u : Tone). List·Memᴰ k (keysOfTone lowest limit u)) same m))
+      (λ more. Memᴰ·append-right (keysOfTone lowest limit x) (to-tones l t k more m))
+      (List·Memᴰ·cases-cons h)

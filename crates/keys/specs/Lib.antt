@@ -1,3 +1,2 @@
-pub mod Range
 pub mod Choice
 pub mod private

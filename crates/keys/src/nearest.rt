@@ -1,11 +1,13 @@
 // The key of a tone that is nearest to a wanted one.
-use crate::range::OCTAVE_KEY;
 use pool::pool::Tone;
 ghost use mathlib.Core.Path.{_≡_};
 ghost use mathlib.Core.Logic.{_⊎_};
 ghost use Prim.Native.Nat.{_+_, _-_, _*_, _≤_, _<_};
 ghost use Rattle.keys.specs.Choice.{distance};
 ghost use Rattle.keys.specs.private.Ranked.{firstKey, nothing, nearestOf};
+
+// Each class has a key from here on, up by octaves, and none below: C2.
+pub const OCTAVE_KEY: u32 = 48;
 
 // A key that a tone offers, how far it is from the one wanted, and the interval that leaves with it.
 pub struct Offer {
@@ -36,36 +38,35 @@ pub fn distance(a: u8, b: u8) -> u8
     a - b
 }
 
-// The lowest key of a class that is not below the range: its own, or one as many octaves up as it takes.
+// The lowest key of a class that is not below the range: its own, or one as many octaves up as it takes. One is enough where a range begins
+// at C3 or below, and takes no quotient.
 fn first_key(class: u8, lowest: u8) -> u32
     ensures { λ r. ⌜ r ≡ firstKey lowest class ⌝ }
 {
     let key = OCTAVE_KEY + class as u32;
-    key + (rest(lowest as u32, key) + 11) / 12 * 12
+    let low = lowest as u32;
+    let near = key + ((key < low) as u32) % 2 * 12;
+    if low <= near {
+        return near;
+    }
+    key + (low - key + 11) / 12 * 12
 }
 
 // How many octaves above the lowest key the nearest is: the next is nearer as long as the wanted one is beyond half the way to it. In
-// one go, as the climb itself ends where nobody can foretell.
+// one go, as the climb itself ends where nobody can foretell. No guide wants a key above the lowest, and none takes a quotient.
 fn octaves(first: u32, wanted: u8, limit: u8) -> u32
     requires { ⌜ first < limit ⌝ }
     ensures { λ r. ⌜ (first + 12 * r < limit) × (12 * r ≤ wanted - first + 5) × ((limit ≤ first + 12 * r + 12) ⊎ (wanted ≤ first + 12 * r + 6)) ⌝ }
 {
+    if wanted as u32 <= first {
+        return 0;
+    }
     let top = (limit as u32 - 1 - first) / 12;
-    let up = (rest(wanted as u32, first) + 5) / 12;
+    let up = (wanted as u32 - first + 5) / 12;
     if up < top {
         return up;
     }
     top
-}
-
-// What is left of a number, or nothing.
-fn rest(number: u32, less: u32) -> u32
-    ensures { λ r. ⌜ r ≡ number - less ⌝ }
-{
-    if number < less {
-        return 0;
-    }
-    number - less
 }
 
 // What a tone offers: of its keys from a lowest one on, below a limit, the one nearest to the wanted.

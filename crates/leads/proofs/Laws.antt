@@ -1,16 +1,21 @@
 -- Theorems on the lead.
 --     bars-one        a tone bars its successor's interval and no other
 --     in-without      the tones that a lead leaves are of the pool
---     IsLead, lead-is    the lead is a key of an unbarred tone, and none of theirs is nearer to the wanted one; or it is 0, and they have no key
-use Rattle.answer.proofs.Kit.{_≡_, refl, Bool, true, false, not, cond, _&&_, List, [], _∷_, List·Memᴰ, List·Memᴰ·tail, _⊎_, inl, inr, ℕ, _≤_, eqb}
+--     free-of         the unbarred tones are of the pool
+--     IsLead, lead-is    the lead is a key of an unbarred tone, none of theirs is nearer to the wanted one, and those that stand before it are farther; or it is 0,
+--                     and they have no key
+--     none-nearer, none-has   so no unbarred tone of the pool has a nearer key; or none of them has any
+--     lead-of         a lead is within the range, and read back the class of such a tone
+use Rattle.answer.proofs.Kit.{_≡_, refl, sym, subst, Bool, true, false, not, cond, _&&_, List, [], _∷_, List·Memᴰ, List·Memᴰ·tail, List·Memᴰ·not-nil, _⊎_, inl, inr, ℕ, eqb}
 use mathlib.Core.Option.{Option, none, some, Option·elim}
 use Rattle.intervals.specs.Sets.{has, without}
 use Rattle.pool.specs.declared.pool.Tone.{Tone}
 use Rattle.pool.specs.Pool.{anyTone}
-use Rattle.keys.specs.Choice.{ToneKey, keysOfTones, distance, nearest, chosen}
+use Rattle.keys.specs.Choice.{ToneKey, keysOfTone, keysOfTones, nearest, chosen}
 use Rattle.keys.proofs.Kept.{without-has}
-use Rattle.keys.proofs.Winner.{KeyOf, IsOne, is-one, from-tones}
-use Rattle.keys.proofs.Among.{one-of, IsLeast, none-nearer, no-keys}
+use Rattle.keys.proofs.Winner.{KeyOf, from-tones, to-tones}
+use Rattle.keys.proofs.Among.{one-of, in-chosen, chosen-has, chosen-all}
+use Rattle.keys.proofs.Earliest.{Earliest, earliest-is, Nearer, IsEarliest, earliest}
 use Rattle.leads.specs.Lead.{rubs, unbarred, owns, withoutLast, leadOf}
 
 pub bars-one : (t next : Tone) (free k : ℕ) → rubs t next ≡ true → has (cond (rubs t next) (without (next .interval) free) free) k ≡ has free k && not (eqb k (next .interval))
@@ -36,9 +41,17 @@ module _ (lowest limit : ℕ) where
     abbrev pub freeKeys : List ToneKey
     freeKeys = keysOfTones lowest limit free
 
+    -- a tone is one of them where it is of the pool and none bars its interval
+    pub free-of : (t : Tone) → List·Memᴰ t free → List·Memᴰ t pool × (has (unbarred pool) (t .interval) ≡ true)
+    free-of t m = (in-chosen (unbarred pool) 0 pool t m, chosen-has (unbarred pool) pool t m)
+
+    of-free : (t : Tone) → List·Memᴰ t pool → has (unbarred pool) (t .interval) ≡ true → (k : ToneKey) → List·Memᴰ k (keysOfTone lowest limit t) → List·Memᴰ k freeKeys
+    of-free t m is k h = to-tones lowest limit free t k (chosen-all (unbarred pool) pool t m is) h
+
     pub record IsLead (key : ℕ) : Type 0 where
-      pub key-of : KeyOf lowest limit free key
-      pub none-nearer-is : (k : ToneKey) → List·Memᴰ k freeKeys → distance wanted key ≤ distance wanted (k .key)
+      pub of : ToneKey
+      pub its-key : key ≡ of .key
+      pub best : Earliest (Nearer wanted) freeKeys of
 
     pub record IsNoLead (key : ℕ) : Type 0 where
       pub is-0 : key ≡ 0
@@ -46,9 +59,21 @@ module _ (lowest limit : ℕ) where
 
     pub lead-is : IsLead (leadOf lowest limit wanted pool) ⊎ IsNoLead (leadOf lowest limit wanted pool)
     unfolding leadOf Option·elim
-    lead-is = by-case (nearest wanted freeKeys) refl (is-one wanted freeKeys) (none-nearer wanted freeKeys)
+    lead-is = by-case (nearest wanted freeKeys) (earliest wanted freeKeys)
       where
-        by-case : (o : Option ToneKey) → nearest wanted freeKeys ≡ o → IsOne wanted freeKeys o → ((k : ToneKey) → List·Memᴰ k freeKeys → IsLeast wanted o k)
+        by-case : (o : Option ToneKey) → IsEarliest wanted freeKeys o
             → IsLead (Option·elim o 0 (λ (k : ToneKey). k .key)) ⊎ IsNoLead (Option·elim o 0 (λ (k : ToneKey). k .key))
-        by-case none e one least = inr record { is-0 = refl; no-key = no-keys wanted freeKeys e }
-        by-case (some k) e one least = inl record { key-of = from-tones lowest limit free k one; none-nearer-is = least }
+        by-case none e = inr record { is-0 = refl; no-key = e }
+        by-case (some k) e = inl record { of = k; its-key = refl; best = e }
+
+    -- a lead is a key of one of these tones
+    pub lead-of : (key : ℕ) → IsLead key → KeyOf lowest limit free key
+    lead-of key h = subst (KeyOf lowest limit free) (sym (h .its-key)) (from-tones lowest limit free (h .of) (earliest-is (Nearer wanted) (h .best)))
+
+    -- so no unbarred tone of the pool has a nearer key, or any
+    pub none-nearer : (key : ℕ) → IsLead key → (t : Tone) → List·Memᴰ t pool → has (unbarred pool) (t .interval) ≡ true
+        → (k : ToneKey) → List·Memᴰ k (keysOfTone lowest limit t) → ¬ Nearer wanted (k .key) key
+    none-nearer key h t m is k own = rw (h .its-key) (h .best .first .found k (of-free t m is k own))
+
+    pub none-has : (key : ℕ) → IsNoLead key → (t : Tone) → List·Memᴰ t pool → has (unbarred pool) (t .interval) ≡ true → (k : ToneKey) → ¬ List·Memᴰ k (keysOfTone lowest limit t)
+    none-has key h t m is k own = List·Memᴰ·not-nil (subst (List·Memᴰ k) (h .no-key) (of-free t m is k own))

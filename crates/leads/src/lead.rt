@@ -1,9 +1,9 @@
 // The lead: the key of an unbarred tone that is nearest to the wanted one, and what the pool is once it has left.
 use keys::bits::in_set;
+use keys::nearest::OCTAVE_KEY;
 use keys::nearest::distance;
 use keys::nearest::nearest;
 use keys::nearest::nothing;
-use keys::range::OCTAVE_KEY;
 use pool::order::ordered_pool;
 use pool::pool::Pool;
 use pool::pool::Tone;

@@ -12,7 +12,7 @@ use Rattle.answer.proofs.FirstRefused.{refused-says, first-refused, none-refuse
 use Rattle.answer.specs.declared.refusal.Checked.{Checked}
 use Rattle.answer.specs.declared.refusal.Checked.the-variants.{Passed, Refused}
 use Rattle.answer.specs.declared.refusal.Refusal.{Refusal}
-use Rattle.answer.specs.declared.refusal.Refusal.the-variants.{NotASet, BadClass, TooManyPairs, BadPairClass, BadPairInterval, BadNote, BadMove, NotAKey, NoRoom}
+use Rattle.answer.specs.declared.refusal.Refusal.the-variants.{NotASet, BadClass, TooManyPairs, BadPairClass, BadPairInterval, BadNote, BadMove, NotAKey, BadRange, NoRoom}
 use Rattle.pool.specs.declared.pool.Tone.{Tone}
 use Rattle.pairs.specs.Checks.{isBad, badPair, firstChecked, pairsChecked}
 
@@ -41,6 +41,7 @@ SaysWhy tones BadClass = ⊥
 SaysWhy tones BadNote = ⊥
 SaysWhy tones BadMove = ⊥
 SaysWhy tones (NotAKey place) = ⊥
+SaysWhy tones BadRange = ⊥
 SaysWhy tones NoRoom = ⊥
 
 -- what is so of these three is so of any refusal that the check says
@@ -55,6 +56,7 @@ by-why tones P many class interval BadClass h = absurd h
 by-why tones P many class interval BadNote h = absurd h
 by-why tones P many class interval BadMove h = absurd h
 by-why tones P many class interval (NotAKey place) h = absurd h
+by-why tones P many class interval BadRange h = absurd h
 by-why tones P many class interval NoRoom h = absurd h
 
 abbrev pub Says : List Tone → Checked → Type 0

@@ -10,6 +10,8 @@ use notes::note::NoteAnswer;
 use qualities::quality::QualityAnswer;
 use qualities::quality::quality;
 use spelling::tones::tones;
+use voicings::range::HIGHEST;
+use voicings::range::LOWEST;
 use voicings::voicing::Chord;
 use voicings::voicing::Lead;
 use voicings::voicing::voicing;
@@ -99,6 +101,8 @@ fn print_voicing(bass: Bass, lead: Lead, classes: &[u8], intervals: &[u8]) {
         Chord {
             root: 0,
             bass,
+            lowest: LOWEST,
+            highest: HIGHEST,
             lead,
         },
         classes,

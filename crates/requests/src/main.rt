@@ -10,6 +10,7 @@
 //     listing ROOM TEXT                              harmony ROOM ROOT BASS SET
 //     candidates_strict ROOM CODES                   candidates_sharp ROOM CODES
 //     candidates_strict_sharp ROOM CODES             candidate_line NUMBER CODES FIFTHS LENGTH LENGTH
+//     voicing_within ROOM ROOT BASS LEAD CLASSES INTERVALS LOWEST HIGHEST
 //
 // Of a candidate's line both listings are made of CODES, each in a range of full stops, of which the first LENGTH bytes are lent:
 // the listing whole or cut, or more than it. Behind the number stand the start, the length and the line.
@@ -42,6 +43,7 @@ use hemotusap::symbols::hemotusap_listing;
 use hemotusap::symbols::hemotusap_suffix;
 use hemotusap::symbols::hemotusap_tones;
 use hemotusap::voices::hemotusap_voicing;
+use hemotusap::voices::hemotusap_voicing_within;
 use libc::STDIN_FILENO;
 
 const LINE_FEED: u8 = b'\n';
@@ -68,11 +70,24 @@ fn transpose(line: &[u8]) -> i64 {
     )
 }
 
-fn voicing(line: &[u8], out: &mut [u8]) -> i64 {
+// Within the keys that the line names last, or with none named.
+fn voicing(line: &[u8], out: &mut [u8], within: bool) -> i64 {
     let mut classes = [0u8; RANGE];
     let mut intervals = [0u8; RANGE];
     let class_count = bytes(line, 5, &mut classes);
     let interval_count = bytes(line, 6, &mut intervals);
+    if within {
+        return hemotusap_voicing_within(
+            number(line, 2),
+            number(line, 3),
+            number(line, 7),
+            number(line, 8),
+            &classes[..class_count],
+            &intervals[..interval_count],
+            number(line, 4),
+            out,
+        );
+    }
     hemotusap_voicing(
         number(line, 2),
         number(line, 3),
@@ -167,7 +182,10 @@ fn writing(line: &[u8], out: &mut [u8]) -> i64 {
         return hemotusap_listing(&line[part(line, 2)..], out);
     }
     if asks(line, b"voicing") {
-        return voicing(line, out);
+        return voicing(line, out, false);
+    }
+    if asks(line, b"voicing_within") {
+        return voicing(line, out, true);
     }
     if asks(line, b"harmony") {
         return hemotusap_harmony(number(line, 2), number(line, 3), number(line, 4), out);
@@ -178,7 +196,7 @@ fn writing(line: &[u8], out: &mut [u8]) -> i64 {
 // Numbers are printed as numbers, texts as they are.
 fn reply_writing(line: &[u8], out: &mut [u8]) {
     print_given(writing(line, out));
-    if asks(line, b"listing") | asks(line, b"voicing") {
+    if asks(line, b"listing") | asks(line, b"voicing") | asks(line, b"voicing_within") {
         print_bytes(out);
     } else {
         print(b" ");

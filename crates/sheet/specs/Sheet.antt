@@ -16,7 +16,7 @@ use Rattle.qualities.specs.declared.quality.QualityAnswer.{QualityAnswer}
 use Rattle.qualities.specs.declared.quality.QualityAnswer.the-variants.{Is}
 use Rattle.rules.specs.Suffix.{suffixReply}
 use Rattle.listing.specs.Listing.{inBytes, listingOf}
-use Rattle.keys.specs.Range.{lowestKey, highestKey}
+use Rattle.voicings.specs.Range.{lowestKey, highestKey}
 use Rattle.voicings.specs.Voicing.{voicingReply}
 use Rattle.voicings.specs.declared.voicing.Lead.{Lead}
 use Rattle.voicings.specs.declared.voicing.Lead.the-variants as Lead
@@ -26,7 +26,7 @@ pub data Call : Type 0 where
   suffix : ℕ → Call
   quality : ℕ → Call
   listing : String → Call
-  -- on C with no bass: note classes, their intervals, the lead
+  -- on C with no bass, in the sheet's range: note classes, their intervals, the lead
   voicing : List ℕ → List Interval → Lead → Call
 
 -- what a row finds ("Found"): what a call has to give, or a quality's answer
@@ -40,7 +40,7 @@ answerOf (suffix set) = gives (suffixReply set)
 answerOf (quality set) = says (qualityAnswer set)
 answerOf (listing name) = gives (text (listingOf (bytes name)))
 answerOf (voicing classes intervals lead) =
-    gives (voicingReply lowestKey highestKey record { root = 0; bass = Bass.None; lead = lead } classes (map numberOf intervals))
+    gives (voicingReply record { root = 0; bass = Bass.None; lowest = lowestKey; highest = highestKey; lead = lead } classes (map numberOf intervals))
 
 -- a row: calls, and what each of them finds
 pub record Row : Type 0 where

@@ -4,6 +4,7 @@ pub mod Placing
 pub mod Few
 pub mod Replied
 pub mod Laws
+pub mod Ordered
 pub mod Musician
 pub mod Computed
 pub mod Determined

@@ -46,12 +46,18 @@ tensionOnce sixth seventh count =
     ++ cond (ltb count 3) (Unison ∷ []) []
     ++ cond sixth (cond seventh (MajorSixth ∷ []) (MajorSeventh ∷ [])) []
 
+-- the tones of a pool that are guides
+abbrev pub guideTones : List Tone → List Tone
+guideTones pool = chosen guides (setOf (guideOnce (holdsAny sixths pool) (holdsAny sevenths pool))) pool
+
+-- the tones of a pool that are tensions
+abbrev pub tensionTones : List Tone → List Tone
+tensionTones pool = chosen tensions (setOf (tensionOnce (holdsAny sixths pool) (holdsAny sevenths pool) (length pool))) pool
+
 -- the keys of the guides, lowest first: those nearest to 0
 unfoldable pub guideKeys : ℕ → ℕ → List Tone → List ℕ
-guideKeys lowest limit pool =
-    placed lowest limit 0 (chosen guides (setOf (guideOnce (holdsAny sixths pool) (holdsAny sevenths pool))) pool)
+guideKeys lowest limit pool = placed lowest limit 0 (guideTones pool)
 
 -- the keys of the tensions below a lead, highest first: those nearest to it
 unfoldable pub tensionKeys : ℕ → ℕ → List Tone → List ℕ
-tensionKeys lowest lead pool =
-    placed lowest lead lead (chosen tensions (setOf (tensionOnce (holdsAny sixths pool) (holdsAny sevenths pool) (length pool))) pool)
+tensionKeys lowest lead pool = placed lowest lead lead (tensionTones pool)

@@ -1,2 +1,3 @@
 pub mod Guides
+pub mod Range
 pub mod Voicing

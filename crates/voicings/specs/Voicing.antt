@@ -1,10 +1,12 @@
--- The voicing of a chord: paper 01, "Voicing (001)" and "Numbers given back".
+-- The voicing of a chord: paper 01, "Voicing (001)" and "Numbers given back", and paper 02, Q-8.
 use mathlib.Core.Bool.{cond, _&&_}
 use mathlib.Core.List.{List, [], _∷_, _++_}
 use Prim.Native.Nat.{ℕ, suc, _+_}
 use lib.Dec.{leb}
-use Rattle.answer.specs.Replies.{Reply, refuse, text, unlessRefused}
-use Rattle.answer.specs.declared.refusal.Refusal.the-variants.{BadClass}
+use Rattle.answer.specs.Replies.{Reply, text, unlessRefused}
+use Rattle.answer.specs.declared.refusal.Checked.{Checked}
+use Rattle.answer.specs.declared.refusal.Checked.the-variants.{Passed, Refused}
+use Rattle.answer.specs.declared.refusal.Refusal.the-variants.{BadClass, BadRange}
 use Rattle.intervals.specs.Bass.{isBass}
 use Rattle.intervals.specs.declared.bass.Bass.{Bass}
 use Rattle.intervals.specs.declared.bass.Bass.the-variants as Bass
@@ -17,8 +19,9 @@ use Rattle.pool.specs.Order.{sorted}
 use Rattle.pairs.specs.Checks.{pairsChecked}
 use Rattle.leads.specs.Lead.{leadOf, withoutLast}
 use Rattle.voicings.specs.Guides.{guideKeys, tensionKeys}
+use Rattle.voicings.specs.Range.{isRange}
 
--- the lead asked for, "or none (79)": the highest key
+-- the lead asked for: "a missing lead now means the highest key"
 abbrev pub wantedOf : ℕ → Lead → ℕ
 wantedOf highest Lead.None = highest
 wantedOf highest (Lead.Key key) = key
@@ -37,14 +40,18 @@ unfoldable pub above : ℕ → ℕ → ℕ → List Tone → List ℕ
 above lowest limit wanted pool =
     let lead = leadOf lowest limit wanted pool in aboveBass lowest limit lead (withoutLast lowest limit lead pool)
 
--- "Output: .. guides; tensions; lead", the pool ordered by base and the keys "kept within" a lowest and a highest
-unfoldable pub voicingOf : ℕ → ℕ → Chord → List ℕ → List ℕ → List ℕ
-voicingOf lowest highest chord classes intervals =
-    bassKeys (chord .root) (chord .bass) ++ above lowest (suc highest) (wantedOf highest (chord .lead)) (sorted (tonesOf classes intervals))
+-- "Output: .. guides; tensions; lead", the pool ordered by base and the keys "kept within" the chord's lowest and highest
+unfoldable pub voicingOf : Chord → List ℕ → List ℕ → List ℕ
+voicingOf chord classes intervals =
+    bassKeys (chord .root) (chord .bass)
+    ++ above (chord .lowest) (suc (chord .highest)) (wantedOf (chord .highest) (chord .lead)) (sorted (tonesOf classes intervals))
 
--- what a call has to give: refusal 2, those of the pairs, or the voicing
-unfoldable pub voicingReply : ℕ → ℕ → Chord → List ℕ → List ℕ → Reply
-voicingReply lowest highest chord classes intervals =
-    cond (leb (chord .root) 11 && isBass (chord .bass))
-    (unlessRefused (pairsChecked (tonesOf classes intervals)) (text (voicingOf lowest highest chord classes intervals)))
-    (refuse BadClass)
+-- refusals 2 and 16, "after 2 and before 3"
+abbrev pub chordChecked : Chord → Checked
+chordChecked chord =
+    cond (leb (chord .root) 11 && isBass (chord .bass)) (cond (isRange (chord .lowest) (chord .highest)) Passed (Refused BadRange)) (Refused BadClass)
+
+-- what a call has to give: the refusals of the record, those of the pairs, or the voicing
+unfoldable pub voicingReply : Chord → List ℕ → List ℕ → Reply
+voicingReply chord classes intervals =
+    unlessRefused (chordChecked chord) (unlessRefused (pairsChecked (tonesOf classes intervals)) (text (voicingOf chord classes intervals)))

@@ -1,14 +1,15 @@
 -- `leads::lead::lead_key` meets its contract. The loop's invariant: the best of what was found and of what the tones left offer is the
 -- best of all.
-use Rattle.answer.proofs.Kit.{_≡_, refl, sym, ap, _∙_, Bool, true, false, cond, _&&_, or-false, List, _∷_, map, ⊎-elim, ℕ, _+_, _-_, _%_, _^_, _≤_, _<_, zero-div, arith, eqb, ltb, length, getD, slice, needs}
+use Rattle.answer.proofs.Kit.{_≡_, refl, sym, ap, _∙_, Bool, true, false, cond, _&&_, List, _∷_, map, ⊎-elim, ℕ, _+_, _-_, _≤_, _<_, arith, ltb, length, getD, slice, needs}
 use mathlib.Core.Option.{Option, none, some, Option·elim}
-use Rattle.intervals.specs.Sets.{has, without}
+use Rattle.intervals.specs.Sets.{has}
 use Rattle.pool.specs.declared.pool.Tone.{Tone}
 use Rattle.keys.specs.declared.nearest.Offer.{Offer}
 use Rattle.pool.specs.private.Places.{tonesIn, blank}
 use Rattle.keys.specs.Choice.{ToneKey, keysOfTones, nearest, chosen}
 use Rattle.keys.specs.private.Ranked.{nothing, offered, nearestOf}
 use Rattle.leads.specs.Lead.{leadOf}
+use Rattle.keys.proofs.Among.{chosen-next}
 use Rattle.keys.proofs.Best.{best, search-turn, found-near}
 use Rattle.pool.proofs.Left.{next, none as no-more}
 use Rattle.leads.proofs.lead.lead_key.Statement.{statement}
@@ -25,19 +26,13 @@ Inv-loop wanted lowest limit pool free found₀ i₀ found i =
 abbrev μ-loop : tie.MeasureT-loop
 μ-loop wanted lowest limit pool free found₀ i₀ found i = pool .count - i
 
--- the empty set has nothing, and nothing can be taken from it
-none-in : (k : ℕ) → has 0 k ≡ false
-unfolding has
-none-in k = ap (λ (x : ℕ). eqb (x % 2) 1) (zero-div (2 ^ k))
-
 -- what a tone offers stands before the others' where its interval is free
 module _ (near : Tone → Offer) (free : ℕ) where
   abbrev offered-by : List Tone → List Offer
   offered-by tones = map near (chosen free 0 tones)
 
   chosen-free : (t : Tone) (l : List Tone) → offered-by (t ∷ l) ≡ cond (has free (t .interval)) (near t ∷ offered-by l) (offered-by l)
-  unfolding chosen without
-  chosen-free t l = rw (none-in (t .interval), or-false (has free (t .interval))) (by-member (has free (t .interval)))
+  chosen-free t l = ap (map near) (chosen-next free t l) ∙ by-member (has free (t .interval))
     where
       by-member : (m : Bool) → map near (cond m (t ∷ chosen free 0 l) (chosen free 0 l)) ≡ cond m (near t ∷ offered-by l) (offered-by l)
       by-member true = refl

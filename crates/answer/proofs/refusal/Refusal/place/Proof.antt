@@ -8,10 +8,10 @@ use Rattle.answer.proofs.refusal.Refusal.place.Tie as tie
 pub place-spec : {M : Type 1} → statement M
 place-spec = tie.close (tie.spec
     (λ c. search needs) (λ c. search needs) (λ c. search needs) (λ c. search needs) (λ c. search needs)
-    (λ c. search needs) (λ c. search needs) (λ c. search needs) (λ c. search needs)
+    (λ c. search needs) (λ c. search needs) (λ c. search needs) (λ c. search needs) (λ c. search needs)
     (λ c. search needs) (λ c. search needs) (λ c. search needs)
     (λ c. ap (λ (why : Refusal). toldOf why .place) (sym (c .before .self .given .1)))
     (λ c. ap (λ (why : Refusal). toldOf why .place) (sym (c .before .self2 .given .1)))
     (λ c. search needs) (λ c. search needs)
     (λ c. ap (λ (why : Refusal). toldOf why .place) (sym (c .before .self3 .given .1)))
-    (λ c. search needs))
+    (λ c. search needs) (λ c. search needs))
