@@ -128,9 +128,6 @@ static void stated_keys(struct run *run, int64_t bass, int64_t lead, struct pool
     expect_voicing_everywhere(run, &chord, keys);
 }
 
-#define KEYS(...) \
-    ((struct range){(const uint8_t[]){__VA_ARGS__}, sizeof(const uint8_t[]){__VA_ARGS__}})
-
 /* Paper 01, "Engraver's proof sheet"; then refusals. */
 static void stated_voicings(struct run *run)
 {

@@ -49,9 +49,6 @@ static void stated_keys(struct run *run, struct key_range within, int64_t lead, 
     expect_voicing_everywhere(run, &chord, keys);
 }
 
-#define KEYS(...) \
-    ((struct range){(const uint8_t[]){__VA_ARGS__}, sizeof(const uint8_t[]){__VA_ARGS__}})
-
 /* C major seventh on the proof sheet's keys, on a vibraphone's and on a left hand's. On middle C
    alone it has no lead, since B bars C, and a triad has; below 48 neither has a key. */
 static void stated_voicings(struct run *run)

@@ -12,6 +12,10 @@ enum {
     MOST_KEYS = 64 /* more than a voicing has */
 };
 
+/* Keys that are stated. */
+#define KEYS(...) \
+    ((struct range){(const uint8_t[]){__VA_ARGS__}, sizeof(const uint8_t[]){__VA_ARGS__}})
+
 struct chord {
     const struct function *function;
     int64_t numbers[5]; /* root, bass, lead; before the lead the lowest and highest key, if asked */

@@ -19,7 +19,7 @@ draw_number() { # LIMIT; it sets `number` and moves `state`
 
 # Ranges by a seed, a line each: LOWEST HIGHEST.
 draw_ranges() { # SEED
-  local state=$1 number highest i
+  local state=$(($1 & 2147483647)) number highest i
   for ((i = 0; i < drawn; i++)); do
     draw_number 84
     highest=$((44 + number))
