@@ -2,13 +2,10 @@
 --     one-of           of a list that has an element or not
 --     in-others, in-chosen   tones of other intervals, and chosen tones, are tones
 --     chosen-next, chosen-has, chosen-all   of one set of intervals alone: tone by tone; each is of that set, and all that are
---     placed-from      a key that some tones are placed at is a key of one of them
-use Rattle.answer.proofs.Kit.{_≡_, refl, sym, ap, subst, _∙_, Bool, true, false, cond, _||_, or-false, List, [], _∷_, List·Memᴰ, List·Memᴰ·head, List·Memᴰ·tail, List·Memᴰ·not-nil, List·Memᴰ·cases-cons, ⊎-elim, ℕ, zero, suc, _%_, _^_, zero-div, eqb}
-use mathlib.Core.Option.{Option, none, some, Option·elim}
+use Rattle.answer.proofs.Kit.{_≡_, refl, sym, ap, subst, _∙_, Bool, true, false, cond, _||_, or-false, List, [], _∷_, List·Memᴰ, List·Memᴰ·head, List·Memᴰ·tail, List·Memᴰ·not-nil, List·Memᴰ·cases-cons, ⊎-elim, ℕ, _%_, _^_, zero-div, eqb}
 use Rattle.intervals.specs.Sets.{has, without}
 use Rattle.pool.specs.declared.pool.Tone.{Tone}
-use Rattle.keys.specs.Choice.{ToneKey, keysOfTones, nearest, chosen, otherTones, placedIn}
-use Rattle.keys.proofs.Winner.{KeyOf, of-more, from-tones, IsOne, is-one}
+use Rattle.keys.specs.Choice.{chosen, otherTones}
 
 pub one-of : {A : Type 0} {a x : A} {l m n : List A} (b : Bool) → List·Memᴰ a (cond b (x ∷ l) m) → (List·Memᴰ a l → List·Memᴰ a n) → (List·Memᴰ a m → List·Memᴰ a n)
     → List·Memᴰ a (x ∷ n)
@@ -61,20 +58,3 @@ module _ (whole : ℕ) where
       behind : (b : Bool) → List·Memᴰ t (chosen whole 0 l) → List·Memᴰ t (cond b (x ∷ chosen whole 0 l) (chosen whole 0 l))
       behind true m = List·Memᴰ·tail m
       behind false m = m
-
-module _ (lowest limit wanted : ℕ) where
-  pub placed-from : (n : ℕ) (tones : List Tone) (key : ℕ) → List·Memᴰ key (placedIn lowest limit wanted n tones) → KeyOf lowest limit tones key
-  unfolding placedIn Option·elim
-  placed-from zero tones key h = absurd (List·Memᴰ·not-nil h)
-  placed-from (suc n) tones key h =
-      by-case (nearest wanted (keysOfTones lowest limit tones)) (is-one wanted (keysOfTones lowest limit tones)) h (λ i. placed-from n (otherTones i tones) key)
-    where
-      by-case : (o : Option ToneKey) → IsOne wanted (keysOfTones lowest limit tones) o
-          → List·Memᴰ key (Option·elim o [] (λ (k : ToneKey). k .key ∷ placedIn lowest limit wanted n (otherTones (k .interval) tones)))
-          → ((i : ℕ) → List·Memᴰ key (placedIn lowest limit wanted n (otherTones i tones)) → KeyOf lowest limit (otherTones i tones) key) → KeyOf lowest limit tones key
-      by-case none one h rest = absurd (List·Memᴰ·not-nil h)
-      by-case (some k) one h rest =
-          ⊎-elim
-          (λ (e : key ≡ k .key). subst (KeyOf lowest limit tones) (sym e) (from-tones lowest limit tones k one))
-          (λ more. of-more lowest limit (in-others (k .interval) tones) (rest (k .interval) more))
-          (List·Memᴰ·cases-cons h)

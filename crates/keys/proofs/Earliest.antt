@@ -4,10 +4,11 @@
 --     earliest      so it is with the nearest of a list, and where there is none the list is empty
 --     earliest-is   it is one of them
 --     earliest-as   better said otherwise, by the keys of the list
-use Rattle.answer.proofs.Kit.{_≡_, refl, sym, ap, subst, List, [], _∷_, List·Memᴰ, List·Memᴰ·head, List·Memᴰ·not-nil, List·Memᴰ·cases-cons, ⊎-elim, ℕ, suc, _≤_, _<_, decLt, arith, lt-ltb, le-ltb}
+use Rattle.answer.proofs.Kit.{_≡_, refl, sym, ap, subst, Bool, true, false, cond, List, [], _∷_, List·Memᴰ, List·Memᴰ·head, List·Memᴰ·not-nil, List·Memᴰ·cases-cons, ⊎-elim, ℕ, suc, _≤_, _<_, arith, ltb, ltb→lt, ltb-false}
 use mathlib.Core.List.{Memᴰ·append-left, Memᴰ·append-right}
 use mathlib.Core.Option.{Option, none, some}
 use Rattle.answer.proofs.First.{IsFirst}
+use Rattle.answer.proofs.Tests.{said}
 use Rattle.keys.specs.Choice.{distance, ToneKey, unlessNearer, nearest}
 
 module _ (Better : ℕ → ℕ → Type 0) where
@@ -84,13 +85,10 @@ module _ (wanted : ℕ) where
   earliest [] = refl
   earliest (x ∷ l) = by-case (nearest wanted l) (earliest l)
     where
-      by-order : (later : ToneKey) → Earliest Nearer l later → Dec (Nearer (later .key) (x .key)) → Earliest Nearer (x ∷ l) (unlessNearer wanted x (some later))
-      by-order later e (yes less) = rw (lt-ltb (distance wanted (later .key)) (distance wanted (x .key)) less) (passes x l later less e)
-      by-order later e (no more) =
-          let most : distance wanted (x .key) ≤ distance wanted (later .key) = omega arith in
-          rw (le-ltb (distance wanted (later .key)) (distance wanted (x .key)) most)
-          (stays x l (λ j m less. e .first .found j m (omega arith)))
+      by-test : (later : ToneKey) → Earliest Nearer l later → (b : Bool) → ltb (distance wanted (later .key)) (distance wanted (x .key)) ≡ b → Earliest Nearer (x ∷ l) (cond b later x)
+      by-test later e true less = passes x l later (ltb→lt _ _ (said _ less)) e
+      by-test later e false more = let most : distance wanted (x .key) ≤ distance wanted (later .key) = ltb-false _ _ more in stays x l (λ j m less. e .first .found j m (omega arith))
 
       by-case : (o : Option ToneKey) → IsEarliest l o → Earliest Nearer (x ∷ l) (unlessNearer wanted x o)
       by-case none e = stays x l (λ j m. absurd (List·Memᴰ·not-nil (subst (List·Memᴰ j) e m)))
-      by-case (some later) e = by-order later e (decLt (distance wanted (later .key)) (distance wanted (x .key)))
+      by-case (some later) e = by-test later e (ltb (distance wanted (later .key)) (distance wanted (x .key))) refl

@@ -13,6 +13,7 @@ use Rattle.keys.specs.Choice.{chosen}
 use Rattle.keys.specs.private.Ranked.{nearestOf}
 use Rattle.intervals.proofs.Width.{within}
 use Rattle.keys.proofs.Best.{near-interval, others}
+use Rattle.keys.proofs.Others.{otherBy}
 
 pub without-has : (c s k : ℕ) → has (without c s) k ≡ has s k && not (eqb k c)
 unfolding without
@@ -32,7 +33,7 @@ keep set [] = []
 keep set (o ∷ more) = cond (has set (o .interval)) (o ∷ keep set more) (keep set more)
 
 pub keep-without : (i s : ℕ) (l : List Offer) → keep (without i s) l ≡ others i (keep s l)
-unfolding keep others
+unfolding keep otherBy
 keep-without i s [] = refl
 keep-without i s (o ∷ l) = ap (λ (b : Bool). cond b (o ∷ keep (without i s) l) (keep (without i s) l)) (without-has i s (o .interval)) ∙ by-case (has s (o .interval)) (eqb (o .interval) i) refl (keep-without i s l)
   where

@@ -1,9 +1,10 @@
+pub mod Others
+pub mod Earliest
 pub mod Winner
 pub mod Climb
 pub mod Best
 pub mod Kept
 pub mod Among
-pub mod Earliest
 pub mod Turns
 pub mod Laws
 pub mod Determined

@@ -5,11 +5,14 @@
 --     turns-as      better said otherwise, by the tones' keys
 --     InOrder, order-as   each key and those that come later; said otherwise
 --     turns-order   in turns, no later key is better
-use Rattle.answer.proofs.Kit.{_≡_, refl, ap, _∙_, Bool, true, false, cond, List, [], _∷_, _++_, List·Memᴰ, List·Memᴰ·not-nil, List·Memᴰ·cases-cons, List·Memᴰ·append-cases, Memᴰ·of-map, ⊎-elim, ℕ, zero, suc, _≤_, _<_, not-suc-le-zero, arith, eqb, eq-eqb, length}
-use mathlib.Core.List.{Memᴰ·append-left, Memᴰ·append-right}
+--     placed-from   a key that some tones are placed at is a key of one of them
+use Rattle.answer.proofs.Kit.{_≡_, refl, sym, subst, _∙_, List, [], _∷_, List·Memᴰ, List·Memᴰ·not-nil, List·Memᴰ·cases-cons, ⊎-elim, ℕ, zero, suc, _≤_, _<_, not-suc-le-zero, arith, length}
 use mathlib.Core.Option.{Option, none, some, Option·elim}
 use Rattle.pool.specs.declared.pool.Tone.{Tone}
-use Rattle.keys.specs.Choice.{keysOf, ToneKey, toneKey, keysOfTone, keysOfTones, nearest, otherTones, placedIn, placed}
+use Rattle.keys.specs.Choice.{ToneKey, keysOfTones, nearest, otherTones, placedIn, placed}
+use Rattle.keys.proofs.Others.{gone, tones-by}
+use Rattle.keys.proofs.Winner.{KeyOf, tone-of, tone-interval, from-tones, to-tones}
+use Rattle.keys.proofs.Among.{in-others}
 use Rattle.keys.proofs.Earliest.{Earliest, earliest-is, Nearer, IsEarliest, earliest}
 
 -- each element and every one that comes later
@@ -33,43 +36,16 @@ module _ (lowest limit : ℕ) where
   InTurns Better tones [] = keysOfTones lowest limit tones ≡ []
   InTurns Better tones (key ∷ more) = Turn Better (λ (left : List Tone). InTurns Better left more) tones key
 
-  -- the tones of other intervals have no other keys
+  -- the tones of other intervals have no other keys, and where a tone has a key they are fewer
   keys-of-others : (i : ℕ) (tones : List Tone) (k : ToneKey) → List·Memᴰ k (keysOfTones lowest limit (otherTones i tones)) → List·Memᴰ k (keysOfTones lowest limit tones)
-  unfolding otherTones keysOfTones
-  keys-of-others i [] k h = h
-  keys-of-others i (t ∷ l) k h = by-test (eqb (t .interval) i) h (keys-of-others i l k)
-    where
-      by-test : (b : Bool) → List·Memᴰ k (keysOfTones lowest limit (cond b (otherTones i l) (t ∷ otherTones i l)))
-          → (List·Memᴰ k (keysOfTones lowest limit (otherTones i l)) → List·Memᴰ k (keysOfTones lowest limit l)) → List·Memᴰ k (keysOfTone lowest limit t ++ keysOfTones lowest limit l)
-      by-test true h f = Memᴰ·append-right (keysOfTone lowest limit t) (f h)
-      by-test false h f =
-          ⊎-elim (λ own. Memᴰ·append-left (keysOfTones lowest limit l) own) (λ more. Memᴰ·append-right (keysOfTone lowest limit t) (f more))
-          (List·Memᴰ·append-cases (keysOfTone lowest limit t) h)
+  keys-of-others i tones k h =
+      let of = tone-of lowest limit (otherTones i tones) k h in
+      to-tones lowest limit tones (of .0) k (in-others i tones (of .0) (of .1)) (of .2)
 
-  one-or-none : (b : Bool) (t : Tone) (l : List Tone) (n : ℕ) → length l ≤ n → length (cond b l (t ∷ l)) ≤ suc n
-  one-or-none true t l n h = omega arith
-  one-or-none false t l n h = omega arith
-
-  few-others : (i : ℕ) (l : List Tone) → length (otherTones i l) ≤ length l
-  unfolding otherTones
-  few-others i [] = omega arith
-  few-others i (t ∷ l) = one-or-none (eqb (t .interval) i) t (otherTones i l) (length l) (few-others i l)
-
-  -- where a tone has a key, the tones of other intervals are fewer
   fewer : (tones : List Tone) (k : ToneKey) → List·Memᴰ k (keysOfTones lowest limit tones) → length (otherTones (k .interval) tones) < length tones
-  unfolding otherTones keysOfTone keysOfTones
-  fewer [] k h = absurd (List·Memᴰ·not-nil h)
-  fewer (t ∷ l) k h =
-      ⊎-elim
-      (λ (own : List·Memᴰ k (keysOfTone lowest limit t)).
-      let same : t .interval ≡ k .interval = ap (λ (x : ToneKey). x .interval) (Memᴰ·of-map (toneKey (t .interval)) (keysOf lowest limit (t .class)) own .2) in
-      rw (eq-eqb (t .interval) (k .interval) same) (omega (arith, few-others (k .interval) l)))
-      (λ later. by-test (eqb (t .interval) (k .interval)) (fewer l k later))
-      (List·Memᴰ·append-cases (keysOfTone lowest limit t) h)
-    where
-      by-test : (b : Bool) → length (otherTones (k .interval) l) < length l → length (cond b (otherTones (k .interval) l) (t ∷ otherTones (k .interval) l)) < suc (length l)
-      by-test true less = omega arith
-      by-test false less = omega arith
+  fewer tones k h =
+      let of = tone-of lowest limit tones k h in
+      rw (tones-by (k .interval) tones) (gone (λ (t : Tone). t .interval) (k .interval) tones (of .0) (tone-interval lowest limit (of .0) k (of .2)) (of .1))
 
   in-turns : (wanted n : ℕ) (tones : List Tone) → length tones ≤ n → InTurns (Nearer wanted) tones (placedIn lowest limit wanted n tones)
   unfolding placedIn keysOfTones Option·elim
@@ -111,3 +87,8 @@ module _ (lowest limit : ℕ) where
         rw (h .its-key, k .2) (h .best .first .found (k .0) (keys-of-others (h .of .interval) tones (k .0) (k .1))),
     turns-order Better (otherTones (h .of .interval) tones) more (h .rest),
   )
+
+  pub placed-from : (wanted : ℕ) (tones : List Tone) (key : ℕ) → List·Memᴰ key (placed lowest limit wanted tones) → KeyOf lowest limit tones key
+  placed-from wanted tones key h =
+      let k = turn-of (Nearer wanted) tones (placed lowest limit wanted tones) (placed-turns wanted tones) key h in
+      subst (KeyOf lowest limit tones) (sym (k .2)) (from-tones lowest limit tones (k .0) (k .1))

@@ -3,13 +3,14 @@
 --     nearest-append    the nearest of two lists is that of their nearest
 --     is-one            the nearest of some keys is one of them
 --     KeyOf, from-tones    a key of some tones is a tone's: within the range, and some octaves above its class's own
---     to-tones          and a tone's key is one of theirs
+--     tone-of, tone-interval, to-tones    whose key it is, with the same interval; and a tone's key is one of theirs
 use Rattle.answer.proofs.Kit.{_≡_, refl, sym, ap, subst, _∙_, Bool, true, false, cond, _&&_, List, [], _∷_, _++_, List·Memᴰ, List·Memᴰ·head, List·Memᴰ·tail, List·Memᴰ·not-nil, List·Memᴰ·cases-cons, List·Memᴰ·append-cases, Memᴰ·of-map, ⊎-elim, ℕ, zero, suc, _+_, _%_, _≤_, _<_, decLt, arith, leb, ltb, leb→le, ltb→lt, lt-ltb, le-ltb}
 use mathlib.Core.List.{Memᴰ·append-left, Memᴰ·append-right}
 use mathlib.Core.Option.{Option, none, some}
 use Rattle.answer.proofs.Tests.{left, right, said}
 use Rattle.pool.specs.declared.pool.Tone.{Tone}
 use Rattle.keys.specs.Choice.{keysFrom, keysOf, distance, ToneKey, toneKey, keysOfTone, keysOfTones, unlessNearer, nearest}
+use Rattle.keys.proofs.Earliest.{earliest-is, Nearer, IsEarliest, earliest}
 
 module _ {A : Type 0} (rank : A → ℕ) where
   abbrev pub earlier : A → A → A
@@ -61,17 +62,11 @@ module _ (wanted : ℕ) where
   IsOne l (some k) = List·Memᴰ k l
 
   pub is-one : (l : List ToneKey) → IsOne l (nearest wanted l)
-  unfolding nearest
-  is-one [] = tt
-  is-one (k ∷ l) = by-case (nearest wanted l) (is-one l)
+  is-one l = by-case (nearest wanted l) (earliest wanted l)
     where
-      by-test : (later : ToneKey) → List·Memᴰ later l → (b : Bool) → List·Memᴰ (cond b later k) (k ∷ l)
-      by-test later m true = List·Memᴰ·tail m
-      by-test later m false = List·Memᴰ·head refl
-
-      by-case : (o : Option ToneKey) → IsOne l o → List·Memᴰ (unlessNearer wanted k o) (k ∷ l)
-      by-case none m = List·Memᴰ·head refl
-      by-case (some later) m = by-test later m (ltb (distance wanted (later .key)) (distance wanted (k .key)))
+      by-case : (o : Option ToneKey) → IsEarliest wanted l o → IsOne l o
+      by-case none e = tt
+      by-case (some k) e = earliest-is (Nearer wanted) e
 
 module _ (lowest limit : ℕ) where
   -- a key of a class: within the range, and not below the class's own, from which it is some octaves
@@ -112,15 +107,27 @@ module _ (lowest limit : ℕ) where
   pub of-more : {l m : List Tone} {key : ℕ} → ((t : Tone) → List·Memᴰ t l → List·Memᴰ t m) → KeyOf l key → KeyOf m key
   of-more f k = record { tone = k .tone; among = f (k .tone) (k .among); key-is = k .key-is }
 
+  -- the tone of a key
+  pub tone-of : (tones : List Tone) (k : ToneKey) → List·Memᴰ k (keysOfTones lowest limit tones) → (t : Tone) × List·Memᴰ t tones × List·Memᴰ k (keysOfTone lowest limit t)
+  unfolding keysOfTones
+  tone-of [] k m = absurd (List·Memᴰ·not-nil m)
+  tone-of (t ∷ l) k m =
+      ⊎-elim
+      (λ own. (t, List·Memᴰ·head refl, own))
+      (λ later. let of = tone-of l k later in (of .0, List·Memᴰ·tail (of .1), of .2))
+      (List·Memᴰ·append-cases (keysOfTone lowest limit t) m)
+
+  -- its interval is the key's
+  pub tone-interval : (t : Tone) (k : ToneKey) → List·Memᴰ k (keysOfTone lowest limit t) → t .interval ≡ k .interval
+  unfolding keysOfTone
+  tone-interval t k own = ap (λ (x : ToneKey). x .interval) (Memᴰ·of-map (toneKey (t .interval)) (keysOf lowest limit (t .class)) own .2)
+
   pub from-tones : (tones : List Tone) (k : ToneKey) → List·Memᴰ k (keysOfTones lowest limit tones) → KeyOf tones (k .key)
-  unfolding keysOfTone keysOfTones
-  from-tones [] k m = absurd (List·Memᴰ·not-nil m)
-  from-tones (t ∷ l) k m = ⊎-elim own (λ later. of-more (λ x h. List·Memᴰ·tail h) (from-tones l k later)) (List·Memᴰ·append-cases (keysOfTone lowest limit t) m)
-    where
-      own : List·Memᴰ k (keysOfTone lowest limit t) → KeyOf (t ∷ l) (k .key)
-      own m =
-          let one = Memᴰ·of-map (toneKey (t .interval)) (keysOf lowest limit (t .class)) m in
-          record { tone = t; among = List·Memᴰ·head refl; key-is = subst (λ (x : ToneKey). IsKey (t .class) (x .key)) (one .2) (is-key (t .class) (one .0) (one .1)) }
+  unfolding keysOfTone
+  from-tones tones k m =
+      let of = tone-of tones k m in
+      let one = Memᴰ·of-map (toneKey (of .0 .interval)) (keysOf lowest limit (of .0 .class)) (of .2) in
+      record { tone = of .0; among = of .1; key-is = subst (λ (x : ToneKey). IsKey (of .0 .class) (x .key)) (one .2) (is-key (of .0 .class) (one .0) (one .1)) }
 
   pub to-tones : (tones : List Tone) (t : Tone) (k : ToneKey) → List·Memᴰ t tones → List·Memᴰ k (keysOfTone lowest limit t) → List·Memᴰ k (keysOfTones lowest limit tones)
   unfolding keysOfTones

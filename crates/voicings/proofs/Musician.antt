@@ -20,10 +20,9 @@ use Rattle.pool.specs.Order.{sorted}
 use Rattle.pairs.specs.Checks.{pairsChecked}
 use Rattle.pairs.proofs.FirstBad.{Says, checked-says}
 use Rattle.pool.proofs.Among.{in-sorted}
-use Rattle.keys.specs.Choice.{placed}
 use Rattle.keys.proofs.Winner.{KeyOf, of-more}
-use Rattle.keys.proofs.Among.{in-chosen, placed-from}
-use Rattle.keys.proofs.Turns.{InOrder, InTurns}
+use Rattle.keys.proofs.Among.{in-chosen}
+use Rattle.keys.proofs.Turns.{InOrder, InTurns, placed-from}
 use Rattle.leads.specs.Lead.{withoutLast, leadOf}
 use Rattle.leads.proofs.Laws.{in-without, free-of, IsLead, IsNoLead, lead-is, lead-of}
 use Rattle.voicings.specs.declared.voicing.Chord.{Chord}
@@ -60,12 +59,12 @@ module _ (lowest highest : ℕ) (tones : List Tone) (classes-are : (t : Tone) �
   -- of a pool of such tones
   module _ (pool : List Tone) (of-chord : (t : Tone) → List·Memᴰ t pool → List·Memᴰ t tones) where
     pub guide-sounds : (key : ℕ) → List·Memᴰ key (guideKeys lowest (suc highest) pool) → Sounds lowest highest tones key
-    unfolding guideKeys placed
-    guide-sounds key h = sounds (omega arith) (of-more _ _ (λ t m. of-chord t (in-chosen _ _ pool t m)) (placed-from lowest (suc highest) 0 _ _ key h))
+    unfolding guideKeys
+    guide-sounds key h = sounds (omega arith) (of-more _ _ (λ t m. of-chord t (in-chosen _ _ pool t m)) (placed-from lowest (suc highest) 0 _ key h))
 
     pub tension-sounds : (lead : ℕ) → lead ≤ suc highest → (key : ℕ) → List·Memᴰ key (tensionKeys lowest lead pool) → Sounds lowest highest tones key
-    unfolding tensionKeys placed
-    tension-sounds lead most key h = sounds most (of-more _ _ (λ t m. of-chord t (in-chosen _ _ pool t m)) (placed-from lowest lead lead _ _ key h))
+    unfolding tensionKeys
+    tension-sounds lead most key h = sounds most (of-more _ _ (λ t m. of-chord t (in-chosen _ _ pool t m)) (placed-from lowest lead lead _ key h))
 
     pub lead-sounds : (wanted : ℕ) → Sounds lowest highest tones (leadOf lowest (suc highest) wanted pool) ⊎ IsNoLead lowest (suc highest) wanted pool (leadOf lowest (suc highest) wanted pool)
     lead-sounds wanted = ⊎-elim (λ is. inl (sounds (omega arith) (of-more _ _ (λ t m. of-chord t (free-of lowest (suc highest) wanted pool t m .0)) (lead-of lowest (suc highest) wanted pool _ is)))) (λ no. inr no) (lead-is lowest (suc highest) wanted pool)

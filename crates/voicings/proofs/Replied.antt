@@ -1,13 +1,16 @@
 -- What a call for a voicing has to give, by the tests on its record and its pairs.
 --     IsGood                   a record that is not refused
 --     IsBadClass, IsBadRange   one that is refused as 2, and one that is refused as 16
---     which, passed            every record is one of the three, and the check says which
+--     ChordSays, chord-says    what each outcome of the check says of a record
+--     chord-only               and what says so of it is what the check gives: each outcome exactly in its case
+--     passed                   so one that passes is good
 --     chord-refused            the refusals of the record
 --     pairs-refused            those of the pairs
 --     gives-voicing            the voicing
 --     by-reply                 what is so of each of these is so of what a call has to give
 --     few-bass                 at most two keys stand below the guides
-use Rattle.answer.proofs.Kit.{_≡_, refl, sym, subst, _∙_, Bool, true, false, cond, _&&_, List, _⊎_, inl, inr, ⊎-elim, ℕ, _≤_, _<_, decLe, arith, leb, le-leb, lt-leb, length}
+use Rattle.answer.proofs.Kit.{_≡_, refl, sym, ap, subst, _∙_, Bool, true, false, cond, _&&_, and-false, List, _⊎_, inl, inr, ⊎-elim, ℕ, _≤_, _<_, arith, leb, leb→le, leb-false, le-leb, lt-leb, length}
+use Rattle.answer.proofs.Tests.{said}
 use Rattle.answer.specs.Replies.{Reply, refuse, text, unlessRefused}
 use Rattle.answer.specs.declared.refusal.Checked.{Checked}
 use Rattle.answer.specs.declared.refusal.Checked.the-variants.{Passed, Refused}
@@ -37,41 +40,42 @@ module _ (chord : Chord) where
   abbrev pub IsBadRange : Type 0
   IsBadRange = (chord .root ≤ 11) × (isBass (chord .bass) ≡ true) × ((chord .highest < chord .lowest) ⊎ (127 < chord .highest))
 
-  pub which : (IsBadClass × (chordChecked chord ≡ Refused BadClass)) ⊎ ((IsBadRange × (chordChecked chord ≡ Refused BadRange)) ⊎ (IsGood × (chordChecked chord ≡ Passed)))
-  which = by-root (decLe (chord .root) 11)
+  abbrev pub ChordSays : Checked → Type 0
+  ChordSays Passed = IsGood
+  ChordSays (Refused why) = ((why ≡ BadClass) × IsBadClass) ⊎ ((why ≡ BadRange) × IsBadRange)
+
+  pub chord-says : ChordSays (chordChecked chord)
+  chord-says = by-tests (leb (chord .root) 11) refl (isBass (chord .bass)) refl (leb (chord .lowest) (chord .highest)) refl (leb (chord .highest) 127) refl
     where
-      by-range : (chord .root ≤ 11) → isBass (chord .bass) ≡ true → Dec (chord .lowest ≤ chord .highest) → Dec (chord .highest ≤ 127)
-          → (IsBadRange × (chordChecked chord ≡ Refused BadRange)) ⊎ (IsGood × (chordChecked chord ≡ Passed))
-      by-range r b (yes rises) (yes midi) =
-          inr (record { root = r; bass = b; rises = rises; midi = midi }, rw (le-leb _ _ r, b, le-leb _ _ rises, le-leb _ _ midi) refl)
-      by-range r b (yes rises) (no midi) =
-          let above : 127 < chord .highest = omega arith in
-          inl ((r, b, inr above), rw (le-leb _ _ r, b, le-leb _ _ rises, lt-leb _ _ above) refl)
-      by-range r b (no rises) midi =
-          let above : chord .highest < chord .lowest = omega arith in
-          inl ((r, b, inl above), rw (le-leb _ _ r, b, lt-leb _ _ above) refl)
+      by-tests : (r : Bool) → leb (chord .root) 11 ≡ r → (b : Bool) → isBass (chord .bass) ≡ b → (l : Bool) → leb (chord .lowest) (chord .highest) ≡ l
+          → (h : Bool) → leb (chord .highest) 127 ≡ h → ChordSays (cond (r && b) (cond (l && h) Passed (Refused BadRange)) (Refused BadClass))
+      by-tests false r b e l f h g = inl (refl, inl (leb-false _ _ r))
+      by-tests true r false e l f h g = inl (refl, inr e)
+      by-tests true r true e false f h g = inr (refl, (leb→le _ _ (said _ r), e, inl (leb-false _ _ f)))
+      by-tests true r true e true f false g = inr (refl, (leb→le _ _ (said _ r), e, inr (leb-false _ _ g)))
+      by-tests true r true e true f true g = record { root = leb→le _ _ (said _ r); bass = e; rises = leb→le _ _ (said _ f); midi = leb→le _ _ (said _ g) }
 
-      by-bass : (chord .root ≤ 11) → (b : Bool) → isBass (chord .bass) ≡ b
-          → (IsBadClass × (chordChecked chord ≡ Refused BadClass)) ⊎ ((IsBadRange × (chordChecked chord ≡ Refused BadRange)) ⊎ (IsGood × (chordChecked chord ≡ Passed)))
-      by-bass r false e = inl (inr e, rw (le-leb _ _ r, e) refl)
-      by-bass r true e = inr (by-range r e (decLe (chord .lowest) (chord .highest)) (decLe (chord .highest) 127))
+  -- and what says so of it is what the check gives
+  pub chord-only : (outcome : Checked) → ChordSays outcome → chordChecked chord ≡ outcome
+  chord-only Passed good = rw (le-leb _ _ (good .root), good .bass, le-leb _ _ (good .rises), le-leb _ _ (good .midi)) refl
+  chord-only (Refused why) says =
+      ⊎-elim
+      (λ (bad : (why ≡ BadClass) × IsBadClass). bad-class (bad .1) ∙ sym (ap Refused (bad .0)))
+      (λ (bad : (why ≡ BadRange) × IsBadRange). rw (le-leb _ _ (bad .1 .0), bad .1 .1) (bad-range (bad .1 .2) ∙ sym (ap Refused (bad .0))))
+      says
+    where
+      bad-class : IsBadClass → chordChecked chord ≡ Refused BadClass
+      bad-class bad = ⊎-elim (λ (above : 11 < chord .root). rw (lt-leb _ _ above) refl) (λ (none : isBass (chord .bass) ≡ false). rw (none, and-false (leb (chord .root) 11)) refl) bad
 
-      by-root : Dec (chord .root ≤ 11)
-          → (IsBadClass × (chordChecked chord ≡ Refused BadClass)) ⊎ ((IsBadRange × (chordChecked chord ≡ Refused BadRange)) ⊎ (IsGood × (chordChecked chord ≡ Passed)))
-      by-root (yes r) = by-bass r (isBass (chord .bass)) refl
-      by-root (no r) = let above : 11 < chord .root = omega arith in inl (inl above, rw (lt-leb _ _ above) refl)
-
-  -- so one that passes is good
-  abbrev IsRefusal : Checked → Type 0
-  IsRefusal Passed = ⊥
-  IsRefusal (Refused why) = Unit {0}
+      bad-range : (chord .highest < chord .lowest) ⊎ (127 < chord .highest) → cond (isRange (chord .lowest) (chord .highest)) Passed (Refused BadRange) ≡ Refused BadRange
+      bad-range bad =
+          ⊎-elim
+          (λ (turned : chord .highest < chord .lowest). rw (lt-leb _ _ turned) refl)
+          (λ (above : 127 < chord .highest). rw (lt-leb _ _ above, and-false (leb (chord .lowest) (chord .highest))) refl)
+          bad
 
   pub passed : chordChecked chord ≡ Passed → IsGood
-  passed e =
-      ⊎-elim
-      (λ (bad : IsBadClass × (chordChecked chord ≡ Refused BadClass)). absurd (subst IsRefusal (sym (bad .1) ∙ e) tt))
-      (λ rest. ⊎-elim (λ (bad : IsBadRange × (chordChecked chord ≡ Refused BadRange)). absurd (subst IsRefusal (sym (bad .1) ∙ e) tt)) (λ good. good .0) rest)
-      which
+  passed e = subst ChordSays e chord-says
 
 module _ (chord : Chord) (cs is : List ℕ) where
   abbrev tones : List Tone
