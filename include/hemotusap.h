@@ -171,7 +171,11 @@ int64_t hemotusap_tones(uint32_t root, uint32_t set, uint8_t *out, size_t room);
  * 12. For each code whose class has not occurred before, in the list's order: the name of its
  * class (C Db D Eb E F Gb G Ab A Bb B), the suffix of the list seen from it, then '/' and the
  * name of the first code unless it is the first, then LF. Answers the bytes written, at most 840
- * and 0 for an empty list; no NUL follows them. Refuses: NO_ROOM. */
+ * and 0 for an empty list; no NUL follows them. Refuses: NO_ROOM.
+ * A moved part keeps its symbols: with every code raised by one amount there are as many lines, in
+ * the same order and with the same suffixes, and each name is that of the class so raised. Raised
+ * by octaves the bytes are the same, and so are those of two lists whose classes occur first in
+ * the same order. This goes for all four calls that write candidates. */
 int64_t hemotusap_candidates(const uint8_t *codes, size_t count, uint8_t *out, size_t room);
 
 /* The same for a list of MIDI's keys, 0..127, alone: one with a code above 127, such as a status

@@ -31,7 +31,7 @@ static uint8_t drawn_code(uint64_t *state, uint32_t classes, uint32_t last)
 }
 
 /* Half of the lists are short, since a long one at random has all twelve classes. */
-static struct list drawn_up_to(uint64_t *state, uint32_t last)
+struct list drawn_list_up_to(uint64_t *state, uint32_t last)
 {
     uint32_t longest = draw_below(state, 2) == 0 ? SHORT : LONGEST_DRAWN;
     uint32_t classes = draw_set(state, CLASSES);
@@ -52,7 +52,7 @@ static void spoil(uint64_t *state, struct list *list)
 struct list drawn_list(uint64_t *state)
 {
     uint32_t kind = draw_below(state, 8);
-    struct list list = drawn_up_to(state, kind < 2 ? LAST_CODE : LAST_KEY);
+    struct list list = drawn_list_up_to(state, kind < 2 ? LAST_CODE : LAST_KEY);
     if (kind == 2 || kind == 3)
         spoil(state, &list);
     if (kind == 3)

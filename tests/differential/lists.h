@@ -26,6 +26,9 @@ struct list list_of_set(uint32_t set, unsigned first, unsigned octaves);
    those of all classes. */
 bool is_one_of_few(uint32_t set, unsigned first);
 
+/* Of codes up to this one, which is 11 or higher, so that each class has a code. */
+struct list drawn_list_up_to(uint64_t *state, uint32_t last);
+
 /* Half are of keys alone, a quarter of any codes, and a quarter of keys but for one code or two,
    each at any place. */
 struct list drawn_list(uint64_t *state);

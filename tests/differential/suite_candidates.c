@@ -4,6 +4,7 @@
 #include <stdbool.h>
 #include <string.h>
 
+#include "candidate_calls.h"
 #include "draw.h"
 #include "length.h"
 #include "listing_rooms.h"
@@ -23,15 +24,6 @@ static void lines_of(struct run *run, struct range list, bool every_room, uint64
         expect_in_every_room(run, &list, &want);
     expect_in_some_rooms(run, &list, &want, state);
     expect_number(run, CALL_ON(candidate_count, &list), want.flat.count);
-}
-
-static void expect_candidate(struct run *run, const struct range *list, int64_t number,
-                             int64_t want)
-{
-    struct call call = *CALL_ON(candidate, list);
-    call.numbers = &number;
-    call.count = 1;
-    expect_number(run, &call, want);
 }
 
 /* Every number up to one past the last, and any beyond; the oracle holds the parts to the lines. */

@@ -1,5 +1,6 @@
 /* Lists the wrong calls, a line each: the function, its fault, and who has to find it, which is the
-   function's suite, the fuzzer, the threads or, of harmony, the reader of MusicXML. */
+   function's suite, the suite of a moved part, the fuzzer, the threads or, of harmony, the reader
+   of MusicXML. */
 #include "length.h"
 #include "own_faults.h"
 
@@ -71,6 +72,8 @@ static void list_own(const struct function *function)
             printf("%s %s fuzzer\n", function->name, own->name);
         if (own->is_read)
             printf("%s %s musicxml\n", function->name, own->name);
+        if (own->is_moved)
+            printf("%s %s moved_part\n", function->name, own->name);
     }
 }
 

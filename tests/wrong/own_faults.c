@@ -5,15 +5,17 @@
 enum { MOST_TEXT = 4096, TABLES = 3 }; /* an edit may lengthen a text */
 
 static const struct own_fault *const tables[FUNCTIONS][TABLES] = {
-    [FUNCTION_candidates] = {faults_of_any_codes, faults_of_names},
+    [FUNCTION_candidates] = {faults_of_any_codes, faults_of_names, faults_of_moved_lines},
+    [FUNCTION_candidate_count] = {faults_of_moved_counts},
     [FUNCTION_tones] = {faults_of_letters, faults_of_signs},
     [FUNCTION_note_text] = {faults_of_signs, faults_of_odd_sharps},
     [FUNCTION_voicing] = {faults_of_voicing},
     [FUNCTION_harmony] = {faults_of_harmony},
     [FUNCTION_candidate] = {faults_of_candidate},
-    [FUNCTION_candidates_strict] = {faults_of_keys_alone, faults_of_names},
-    [FUNCTION_candidates_sharp] = {faults_of_any_codes, faults_of_names},
-    [FUNCTION_candidates_strict_sharp] = {faults_of_keys_alone, faults_of_names},
+    [FUNCTION_candidates_strict] = {faults_of_keys_alone, faults_of_names, faults_of_moved_lines},
+    [FUNCTION_candidates_sharp] = {faults_of_any_codes, faults_of_names, faults_of_moved_lines},
+    [FUNCTION_candidates_strict_sharp] = {faults_of_keys_alone, faults_of_names,
+                                          faults_of_moved_lines},
     [FUNCTION_candidate_line] = {faults_of_fifths, faults_of_lines, faults_of_listings},
     [FUNCTION_voicing_within] = {faults_of_voicing, faults_of_ranges},
 };

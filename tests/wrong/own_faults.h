@@ -6,8 +6,9 @@
 
 struct own_fault {
     const char *name;
-    bool is_read; /* a reader of what is written finds it too, */
-    bool is_seen; /* and so does the fuzzer, which has no oracle */
+    bool is_read;  /* a reader of what is written finds it too, */
+    bool is_seen;  /* and so does the fuzzer, which has no oracle, */
+    bool is_moved; /* or the suite of a moved part, which has none either */
     /* One of the four: the text that was written is edited, another number is given back where
        none is written, a refusal that tells a place is told otherwise, or the call is made so. */
     void (*edit)(char *text);
@@ -30,6 +31,8 @@ extern const struct own_fault faults_of_candidate[];
 extern const struct own_fault faults_of_fifths[];
 extern const struct own_fault faults_of_lines[];
 extern const struct own_fault faults_of_listings[];
+extern const struct own_fault faults_of_moved_lines[];
+extern const struct own_fault faults_of_moved_counts[];
 
 /* The function's own, by their numbers from 0; NULL: it has no more. */
 const struct own_fault *own_fault(const struct function *function, unsigned number);

@@ -87,6 +87,32 @@ static int64_t the_last_beyond(const struct call *call)
     return packed(numbered(call, number));
 }
 
+/* It is C's, wherever the list is. */
+static int64_t bass_not_raised(const struct call *call)
+{
+    struct parts parts = right(call);
+    if (parts.bass != NO_BASS)
+        parts.bass = 0;
+    return packed(parts);
+}
+
+/* As far below C as it is above, so that what is raised falls. */
+static int64_t root_the_wrong_way(const struct call *call)
+{
+    struct parts parts = right(call);
+    parts.root = (12 - parts.root) % 12;
+    return packed(parts);
+}
+
+/* On E it has another. */
+static int64_t a_set_by_its_root(const struct call *call)
+{
+    struct parts parts = right(call);
+    if (parts.root == 4)
+        parts.set ^= 2;
+    return packed(parts);
+}
+
 const struct own_fault faults_of_candidate[] = {
     {"no_bass", false, .answer = no_bass},
     {"bass_of_all", false, .answer = bass_of_all},
@@ -96,5 +122,8 @@ const struct own_fault faults_of_candidate[] = {
     {"number_cut_to_a_byte", false, .answer = number_cut_to_a_byte},
     {"number_of_a_code", false, .answer = number_of_a_code},
     {"the_last_beyond", false, .answer = the_last_beyond},
+    {"bass_not_raised", .is_moved = true, .answer = bass_not_raised},
+    {"root_the_wrong_way", .is_moved = true, .answer = root_the_wrong_way},
+    {"a_set_by_its_root", .is_moved = true, .answer = a_set_by_its_root},
     {.name = NULL},
 };

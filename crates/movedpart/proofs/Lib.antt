@@ -1,0 +1,3 @@
+pub mod Raised
+pub mod Calls
+pub mod MovedPart

@@ -1,0 +1,55 @@
+#include "moved_parts.h"
+
+#include "candidate_calls.h"
+#include "raised_lists.h"
+#include "written.h"
+
+/* Those of a list, in their order. */
+struct candidates {
+    int64_t count;
+    int64_t parts[CLASSES];
+};
+
+static struct candidates candidates_of(struct run *run, const struct list *list)
+{
+    const struct range codes = {list->codes, list->length};
+    struct candidates found = {.count = 0};
+    int64_t parts;
+    while ((parts = candidate_of(run, &codes, found.count)) != 0) {
+        if (found.count == CLASSES)
+            fail("%s: a list has more candidates than classes", run->suite);
+        found.parts[found.count++] = parts;
+    }
+    return found;
+}
+
+static int64_t raised_class(int64_t class, unsigned amount)
+{
+    return (class + amount) % CLASSES;
+}
+
+static int64_t raised_parts(int64_t parts, unsigned amount)
+{
+    int64_t bass = parts / BASS_UNIT, root = parts / ROOT_UNIT % 16, set = parts % ROOT_UNIT;
+    if (bass != NO_BASS)
+        bass = raised_class(bass, amount);
+    return BASS_UNIT * bass + ROOT_UNIT * raised_class(root, amount) + set;
+}
+
+static void moved_by(struct run *run, const struct list *list, const struct candidates *were,
+                     unsigned amount)
+{
+    const struct list higher = raised_list(list, amount);
+    const struct range codes = {higher.codes, higher.length};
+    expect_number(run, CALL_ON(candidate_count, &codes), were->count);
+    for (int64_t number = 0; number < were->count; number++)
+        expect_candidate(run, &codes, number, raised_parts(were->parts[number], amount));
+    expect_candidate(run, &codes, were->count, 0);
+}
+
+void expect_parts_to_move(struct run *run, const struct list *list)
+{
+    const struct candidates were = candidates_of(run, list);
+    for (unsigned amount = 0; amount <= LAST_CODE - highest_code(list); amount++)
+        moved_by(run, list, &were, amount);
+}
