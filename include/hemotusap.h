@@ -175,7 +175,7 @@ int64_t hemotusap_tones(uint32_t root, uint32_t set, uint8_t *out, size_t room);
  * A moved part keeps its symbols: with every code raised by one amount there are as many lines, in
  * the same order and with the same suffixes, and each name is that of the class so raised. Raised
  * by octaves the bytes are the same, and so are those of two lists whose classes occur first in
- * the same order. This goes for all four calls that write candidates. */
+ * the same order. This goes for all four calls that write candidates, where they do not refuse. */
 int64_t hemotusap_candidates(const uint8_t *codes, size_t count, uint8_t *out, size_t room);
 
 /* The same for a list of MIDI's keys, 0..127, alone: one with a code above 127, such as a status

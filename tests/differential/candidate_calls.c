@@ -3,6 +3,11 @@
 #include "lent_call.h"
 #include "written.h"
 
+int64_t packed_candidate(int64_t root, int64_t bass, int64_t set)
+{
+    return 65536 * (bass == HEMOTUSAP_NO_BASS ? 15 : bass) + 4096 * root + set;
+}
+
 static struct call call_of(const struct range *list, const int64_t *number)
 {
     struct call call = *CALL_ON(candidate, list);

@@ -4,8 +4,8 @@
 
 #include "run.h"
 
-/* What a candidate is made of, as the library hands it back; of none it is 0. */
-enum { BASS_UNIT = 65536, ROOT_UNIT = 4096, NO_BASS = 15 };
+/* What the library answers for a candidate of these parts, which the header takes apart. */
+int64_t packed_candidate(int64_t root, int64_t bass, int64_t set);
 
 /* Held to this answer.. */
 void expect_candidate(struct run *run, const struct range *list, int64_t number, int64_t want);

@@ -61,7 +61,7 @@ static void moved_by(struct run *run, const struct entry *entry, const struct li
 {
     const struct list higher = raised_list(list, amount);
     struct lines want;
-    if (!raise_names(were, *entry->names, amount, &want))
+    if (!rename_lines(were, *entry->names, *entry->names, amount, &want))
         fail("%s: %s writes a line without a name", run->suite, entry->function->name);
     if (amount % CLASSES == 0)
         want = *were;

@@ -23,17 +23,12 @@ static struct candidates candidates_of(struct run *run, const struct list *list)
     return found;
 }
 
-static int64_t raised_class(int64_t class, unsigned amount)
+static int64_t raised(int64_t parts, unsigned amount)
 {
-    return (class + amount) % CLASSES;
-}
-
-static int64_t raised_parts(int64_t parts, unsigned amount)
-{
-    int64_t bass = parts / BASS_UNIT, root = parts / ROOT_UNIT % 16, set = parts % ROOT_UNIT;
-    if (bass != NO_BASS)
-        bass = raised_class(bass, amount);
-    return BASS_UNIT * bass + ROOT_UNIT * raised_class(root, amount) + set;
+    uint32_t root = hemotusap_candidate_root(parts), bass = hemotusap_candidate_bass(parts);
+    if (bass != HEMOTUSAP_NO_BASS)
+        bass = (bass + amount) % CLASSES;
+    return packed_candidate((root + amount) % CLASSES, bass, hemotusap_candidate_set(parts));
 }
 
 static void moved_by(struct run *run, const struct list *list, const struct candidates *were,
@@ -43,7 +38,7 @@ static void moved_by(struct run *run, const struct list *list, const struct cand
     const struct range codes = {higher.codes, higher.length};
     expect_number(run, CALL_ON(candidate_count, &codes), were->count);
     for (int64_t number = 0; number < were->count; number++)
-        expect_candidate(run, &codes, number, raised_parts(were->parts[number], amount));
+        expect_candidate(run, &codes, number, raised(were->parts[number], amount));
     expect_candidate(run, &codes, were->count, 0);
 }
 

@@ -5,7 +5,8 @@
 name_table flat_names = {"C", "Db", "D", "Eb", "E", "F", "Gb", "G", "Ab", "A", "Bb", "B"};
 name_table sharp_names = {"C", "C#", "D", "D#", "E", "F", "F#", "G", "G#", "A", "A#", "B"};
 
-/* The class whose name stands here, the longest, since no suffix begins with a sign; or CLASSES. */
+/* The class whose name stands here, the longest, since no suffix begins with a sign: a 'b' or '#'
+   behind a name's letter is the name's. CLASSES where there is none. */
 static unsigned class_at(const uint8_t *text, size_t length, name_table names)
 {
     unsigned found = CLASSES;
@@ -28,34 +29,26 @@ static bool put(struct lines *to, const void *bytes, size_t length)
     return true;
 }
 
-/* The name that stands here; false where there is none. */
-static bool raise_name(const struct lines *lines, size_t *at, name_table names, unsigned amount,
-                       struct lines *raised)
-{
-    unsigned class = class_at(lines->text + *at, lines->length - *at, names);
-    if (class == CLASSES)
-        return false;
-    const char *name = names[(class + amount) % CLASSES];
-    *at += strlen(names[class]);
-    return put(raised, name, strlen(name));
-}
-
 /* A name begins each line and stands behind '/', which no suffix holds. */
 static bool is_before_a_name(uint8_t byte)
 {
     return byte == '\n' || byte == '/';
 }
 
-bool raise_names(const struct lines *lines, name_table names, unsigned amount, struct lines *raised)
+bool rename_lines(const struct lines *lines, name_table from, name_table to, unsigned amount,
+                  struct lines *renamed)
 {
-    *raised = (struct lines){.length = 0};
+    *renamed = (struct lines){.count = lines->count};
     for (size_t at = 0; at < lines->length;) {
-        if (!raise_name(lines, &at, names, amount, raised))
+        unsigned class = class_at(lines->text + at, lines->length - at, from);
+        if (class == CLASSES)
             return false;
-        size_t from = at;
+        const char *name = to[(class + amount) % CLASSES];
+        size_t behind = at += strlen(from[class]);
         while (at < lines->length && !is_before_a_name(lines->text[at++]))
             ;
-        if (!put(raised, lines->text + from, at - from))
+        if (!put(renamed, name, strlen(name)) ||
+            !put(renamed, lines->text + behind, at - behind))
             return false;
     }
     return true;

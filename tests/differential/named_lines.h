@@ -1,5 +1,4 @@
-/* The lines of a listing by the names in them: a reader with tables of its own finds each root and
-   each bass. */
+/* The lines of a listing by the names in them, which a reader with tables of its own finds. */
 #ifndef NAMED_LINES_H
 #define NAMED_LINES_H
 
@@ -13,9 +12,10 @@ typedef const char *const name_table[CLASSES];
 
 extern name_table flat_names, sharp_names;
 
-/* The listing with each class raised by this amount: each name is the raised class's, and all that
-   stands between the names is the same. False where the reader meets no name, or has no room. */
-bool raise_names(const struct lines *lines, name_table names, unsigned amount,
-                 struct lines *raised);
+/* The listing with other names: where one table has a class, the other's name of the class that is
+   higher by this amount; all that stands between the names is the same. False where the reader
+   meets no name, or has no room. */
+bool rename_lines(const struct lines *lines, name_table from, name_table to, unsigned amount,
+                  struct lines *renamed);
 
 #endif

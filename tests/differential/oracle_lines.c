@@ -3,6 +3,7 @@
 #include <stdlib.h>
 #include <string.h>
 
+#include "candidate_calls.h"
 #include "length.h"
 #include "note_name.h"
 #include "notes.h"
@@ -93,8 +94,7 @@ struct parts parts_in(const char *line)
         int64_t set = read_number(line, from, strchr(from, '\t') == NULL ? '\0' : '\t', &from);
         if (parts.count == LENGTH(parts.packed))
             fail("the oracle's line `%s` has more candidates than there are classes", line);
-        bass = bass == HEMOTUSAP_NO_BASS ? 15 : bass;
-        parts.packed[parts.count++] = 65536 * bass + 4096 * root + set;
+        parts.packed[parts.count++] = packed_candidate(root, bass, set);
     }
     return parts;
 }

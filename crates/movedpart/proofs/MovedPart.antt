@@ -1,14 +1,14 @@
 -- Paper 02, Q-14: a moved part keeps its symbols, law by law. `specs/Raised.antt` says what it is to be raised, `specs/Calls.antt` what is said of two calls.
 --     1   parts-move, part-moves, count-stays    the candidates' parts, and how many there are
---         lines-move                             the listing's lines
+--         listing-moves, lines-move              the listing's bytes line by line, and its lines as they are read
 --     2   octaves-stay                           the listing's bytes, raised by octaves
 --     3   classes-stay                           and of lists with the same classes in the same order
 --     4   strict-moves, strict-octaves-stay, strict-classes-stay     the strict entry's replies
 --     6   F-keeps                                1, 2 and 3 of two calls of F that had room
 --         candidate-moves, host-candidate-moves, candidate-count-stays, host-candidate-count-stays     and 1 of those that tell the parts
--- All of it holds for any table of names, so for flats and sharps by one proof (5); of lines it asks that the names be brief, since these are read by their ends. That no code
--- passes 255 is asked nowhere: a call can't be given a list with such a code.
-use Rattle.answer.proofs.Kit.{_≡_, sym, ap, ap₂, _∙_, T, List, map, ℕ, _*_, length, length-map, now, pos}
+-- All of it holds for any table of names, so for flats and sharps by one proof (5); only of lines as they are read it asks that names be brief, so that none has an end of line
+-- in it. That no code passes 255 is asked nowhere: a call can't be given a list with such a code.
+use Rattle.answer.proofs.Kit.{_≡_, refl, sym, ap, ap₂, _∙_, T, List, map, flatMap, ℕ, _*_, length, length-map, now, pos}
 use Rattle.answer.specs.Lines.{linesOf}
 use Rattle.answer.specs.Replies.{text}
 use Rattle.answer.specs.declared.output.Output.the-variants.{Written}
@@ -17,11 +17,11 @@ use Rattle.notes.specs.declared.note.Note.{Note}
 use Rattle.names.specs.Names.{tableOf}
 use Rattle.names.specs.declared.table.Names.{Names}
 use Rattle.names.specs.declared.table.Names.the-variants.{Flats, Sharps}
-use Rattle.names.proofs.Named.{areBrief, table-brief}
+use Rattle.names.proofs.Named.{areBrief}
 use Rattle.candidates.specs.declared.parts.Candidate.{Candidate}
 use Rattle.candidates.specs.declared.parts.MaybeCandidate.{MaybeCandidate}
 use Rattle.candidates.specs.Keys.{classSet}
-use Rattle.candidates.specs.Candidates.{chordsOf, numberedIn, candidateAt, symbol, candidatesOf}
+use Rattle.candidates.specs.Candidates.{chordsOf, numberedIn, candidateAt, symbol, line, lines, candidatesOf}
 use Rattle.candidates.proofs.Chords.{chords-counted}
 use Rattle.candidates.proofs.Laws.{candidates-lines, same-candidates}
 use Rattle.host.specs.Numbers.{candidateNumber}
@@ -39,9 +39,9 @@ use Rattle.hemotusap.proofs.symbols.hemotusap_candidates_strict.Reads as host-c
 use Rattle.hemotusap.proofs.symbols.hemotusap_candidates_strict_sharp.Reads as host-candidates-strict-sharp
 use Rattle.hemotusap.proofs.symbols.hemotusap_candidate_count.Reads as host-candidate-count
 use Rattle.hemotusap.proofs.symbols.hemotusap_candidate.Reads as host-candidate
-use Rattle.movedpart.specs.Raised.{raised, chordRaised, symbolRaised, answerRaised, SameClasses}
+use Rattle.movedpart.specs.Raised.{raised, chordRaised, symbolRaised, lineRaised, answerRaised, SameClasses}
 use Rattle.movedpart.specs.Calls.{Wrote, KeepsSymbols, TwoAnswers}
-use Rattle.movedpart.proofs.Raised.{all-raised, numbered-raised, symbols-raised, octaves, lower-keys}
+use Rattle.movedpart.proofs.Raised.{all-raised, numbered-raised, symbols-raised, lines-raised, octaves, lower-keys}
 use Rattle.movedpart.proofs.Calls.{Listed, library, host, any-codes, keys-alone, listing-written}
 
 -- 1. "if every code of a list is raised by the same amount .. the candidates keep number and order"
@@ -59,11 +59,16 @@ module _ (n : ℕ) (codes : List ℕ) where
   pub count-stays : classCount (classSet (raised n codes)) ≡ classCount (classSet codes)
   count-stays = sym (chords-counted (raised n codes)) ∙ ap length parts-move ∙ length-map (chordsOf codes) (chordRaised n) ∙ chords-counted codes
 
-  module _ (table : List Note) (brief : T (areBrief table)) where
-    -- line by line "every suffix is the same, and each root and bass name is the old class raised by that amount"
-    pub lines-move : (linesOf (candidatesOf table codes) ≡ map (symbol table) (chordsOf codes))
+  module _ (table : List Note) where
+    -- candidate by candidate a line, in which "every suffix is the same, and each root and bass name is the old class raised by that amount"
+    pub listing-moves : (candidatesOf table codes ≡ flatMap (line table) (chordsOf codes)) × (candidatesOf table (raised n codes) ≡ flatMap (lineRaised table n) (chordsOf codes))
+    unfolding candidatesOf lines
+    listing-moves = (refl, ap (lines table) parts-move ∙ lines-raised table n (chordsOf codes))
+
+    -- and so the lines are as they are read from the bytes, where names are brief
+    pub lines-move : T (areBrief table) → (linesOf (candidatesOf table codes) ≡ map (symbol table) (chordsOf codes))
         × (linesOf (candidatesOf table (raised n codes)) ≡ map (symbolRaised table n) (chordsOf codes))
-    lines-move =
+    lines-move brief =
         (candidates-lines table brief codes, candidates-lines table brief (raised n codes) ∙ ap (map (symbol table)) parts-move ∙ symbols-raised table n (chordsOf codes))
 
 -- 2. "Raising by a multiple of 12 leaves the listing's bytes equal"
@@ -91,9 +96,8 @@ module _ (table : List Note) where
 -- 6. What calls wrote that list the candidates is as was said of the listing
 keeps {ℓ} : (Call : Names → List ℕ → List ℕ → Type ℓ) → Listed Call → KeepsSymbols Call
 keeps Call listed = record {
-  lines-move = λ names n codes bytes bytes′ call call′.
-      let both = lines-move n codes (tableOf names) (table-brief names) in
-      (ap linesOf (listed names codes bytes call) ∙ both .0, ap linesOf (listed names (raised n codes) bytes′ call′) ∙ both .1);
+  listing-moves = λ names n codes bytes bytes′ call call′.
+      let both = listing-moves n codes (tableOf names) in (listed names codes bytes call ∙ both .0, listed names (raised n codes) bytes′ call′ ∙ both .1);
   octaves-stay = λ names m codes bytes bytes′ call call′.
       listed names (raised (12 * m) codes) bytes′ call′ ∙ octaves-stay (tableOf names) m codes ∙ sym (listed names codes bytes call);
   classes-stay = λ names codes codes′ bytes bytes′ same call call′.

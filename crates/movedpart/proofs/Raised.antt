@@ -3,11 +3,11 @@
 --     seen-raised       from the raised root, the set is seen as it was
 --     all-raised        so each candidate is raised
 --     numbered-raised   and with it the one of a number
---     symbols-raised    and what is written of each
+--     lines-raised, symbols-raised     and what is written of them, in all and of each
 --     octaves           raised by octaves, a list has the same classes
 --     lower-keys        and where it has keys alone, the old one has
-use Rattle.answer.proofs.Kit.{_≡_, refl, sym, ap, ap₂, _∙_, Bool, true, false, cond, _||_, List, [], _∷_, map, ℕ, zero, suc, _+_, _*_, _%_, arith, eqb, eq-eqb, ne-eqb, eqb-true, eqb-false}
-use mathlib.Core.List.{Memᴰ·map}
+use Rattle.answer.proofs.Kit.{_≡_, refl, sym, ap, ap₂, _∙_, Bool, true, false, cond, _||_, List, [], _∷_, _++_, map, flatMap, ℕ, zero, suc, _+_, _*_, _%_, arith, eqb, eq-eqb, ne-eqb, eqb-true, eqb-false}
+use mathlib.Core.List.{Memᴰ·map, map-map}
 use Rattle.intervals.specs.Sets.{has, setWhere, isIn}
 use Rattle.intervals.specs.declared.bass.Bass.{Bass}
 use Rattle.intervals.specs.declared.bass.Bass.the-variants.{None, Class}
@@ -15,10 +15,10 @@ use Rattle.intervals.proofs.Wheres.{below-same}
 use Rattle.notes.specs.declared.note.Note.{Note}
 use Rattle.candidates.specs.declared.parts.Candidate.{Candidate}
 use Rattle.candidates.specs.Keys.{keyClass, seenFrom, classSet, newBehind, firsts}
-use Rattle.candidates.specs.Candidates.{chord, chords, chordsOf, numberedIn, symbol}
+use Rattle.candidates.specs.Candidates.{chord, chords, chordsOf, numberedIn, symbol, line, lines}
 use Rattle.candidates.proofs.Heard.{set-heard}
 use Rattle.strict.proofs.FirstAbove.{AreKeys}
-use Rattle.movedpart.specs.Raised.{raised, classRaised, bassRaised, chordRaised, symbolRaised, answerRaised}
+use Rattle.movedpart.specs.Raised.{raised, classRaised, bassRaised, chordRaised, symbolRaised, lineRaised, answerRaised}
 
 abbrev classes : List ℕ → List ℕ
 classes codes = map keyClass codes
@@ -103,10 +103,14 @@ pub octaves : (m : ℕ) (codes : List ℕ) → firsts (raised (12 * m) codes) �
 unfolding firsts
 octaves m codes = ap (newBehind []) (same-classes m codes)
 
+pub lines-raised : (table : List Note) (n : ℕ) (listed : List Candidate) → lines table (map (chordRaised n) listed) ≡ flatMap (lineRaised table n) listed
+unfolding lines flatMap line symbol lineRaised symbolRaised chordRaised
+lines-raised table n [] = refl
+lines-raised table n (c ∷ more) = ap (λ (t : List ℕ). lineRaised table n c ++ t) (lines-raised table n more)
+
 pub symbols-raised : (table : List Note) (n : ℕ) (listed : List Candidate) → map (symbol table) (map (chordRaised n) listed) ≡ map (symbolRaised table n) listed
 unfolding symbol symbolRaised chordRaised
-symbols-raised table n [] = refl
-symbols-raised table n (c ∷ more) = ap (λ (l : List (List ℕ)). symbolRaised table n c ∷ l) (symbols-raised table n more)
+symbols-raised table n listed = map-map (symbol table) (chordRaised n) listed
 
 pub lower-keys : (n : ℕ) (codes : List ℕ) → AreKeys (raised n codes) → AreKeys codes
 unfolding raised

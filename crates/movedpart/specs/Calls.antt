@@ -1,13 +1,12 @@
 -- What two calls have in common of which the second is given a moved part: paper 02, Q-14, of any function by its contract, as its proof and its callers read it (`Post`).
 use mathlib.Core.Path.{_≡_}
-use mathlib.Core.List.{List, map}
+use mathlib.Core.List.{List, flatMap}
 use Prim.Native.Nat.{ℕ, _*_}
 use lib.ListN.{length, take}
-use Rattle.answer.specs.Lines.{linesOf}
 use Rattle.names.specs.Names.{tableOf}
 use Rattle.names.specs.declared.table.Names.{Names}
-use Rattle.candidates.specs.Candidates.{chordsOf, symbol}
-use Rattle.movedpart.specs.Raised.{raised, symbolRaised, SameClasses}
+use Rattle.candidates.specs.Candidates.{chordsOf, line}
+use Rattle.movedpart.specs.Raised.{raised, lineRaised, SameClasses}
 
 -- a call "and there is room": asked for the names and the codes that its arguments say, it answered how many these bytes are, and they stand at the front of the range that it
 -- was lent, as it left it
@@ -25,8 +24,8 @@ pub record Wrote {ℓ} {K : Type ℓ} {R : Type 0} {A S : K → Type 0} (count :
 
 -- the request's first three sentences, of what two such calls with the same names wrote, in whatever rooms
 pub record KeepsSymbols {ℓ} (Call : Names → List ℕ → List ℕ → Type ℓ) : Type ℓ where
-  pub lines-move : (names : Names) (n : ℕ) (codes bytes bytes′ : List ℕ) → Call names codes bytes → Call names (raised n codes) bytes′
-      → (linesOf bytes ≡ map (symbol (tableOf names)) (chordsOf codes)) × (linesOf bytes′ ≡ map (symbolRaised (tableOf names) n) (chordsOf codes))
+  pub listing-moves : (names : Names) (n : ℕ) (codes bytes bytes′ : List ℕ) → Call names codes bytes → Call names (raised n codes) bytes′
+      → (bytes ≡ flatMap (line (tableOf names)) (chordsOf codes)) × (bytes′ ≡ flatMap (lineRaised (tableOf names) n) (chordsOf codes))
   pub octaves-stay : (names : Names) (m : ℕ) (codes bytes bytes′ : List ℕ) → Call names codes bytes → Call names (raised (12 * m) codes) bytes′ → bytes′ ≡ bytes
   pub classes-stay : (names : Names) (codes codes′ bytes bytes′ : List ℕ) → SameClasses codes codes′ → Call names codes bytes → Call names codes′ bytes′ → bytes ≡ bytes′
 

@@ -2,6 +2,7 @@
 use mathlib.Core.Path.{_≡_}
 use mathlib.Core.List.{List, _++_, map}
 use Prim.Native.Nat.{ℕ, _+_, _%_}
+use Rattle.answer.specs.Lines.{ended}
 use Rattle.intervals.specs.declared.bass.Bass.{Bass}
 use Rattle.intervals.specs.declared.bass.Bass.the-variants.{None, Class}
 use Rattle.notes.specs.declared.note.Note.{Note}
@@ -33,6 +34,10 @@ chordRaised n c = record { root = classRaised n (c .root); bass = bassRaised n (
 -- a candidate's text: "every suffix is the same, and each root and bass name is the old class raised by that amount"
 unfoldable pub symbolRaised : List Note → ℕ → Candidate → List ℕ
 symbolRaised table n c = nameOf table (classRaised n (c .root)) ++ suffixOf (c .set) ++ slash table (bassRaised n (c .bass))
+
+-- a candidate's line: "Each ends with LF"
+unfoldable pub lineRaised : List Note → ℕ → Candidate → List ℕ
+lineRaised table n c = ended (symbolRaised table n c)
 
 -- the candidate of a number: where there is none, there is none still
 abbrev pub answerRaised : ℕ → MaybeCandidate → MaybeCandidate
