@@ -5,6 +5,8 @@
 own=$(uname -m)-linux
 targets=(x86_64-linux)
 if [ "$own" != x86_64-linux ]; then targets+=("$own"); fi
+# Whose programs are run on either machine.
+linux_targets=(x86_64-linux aarch64-linux)
 c_options=(-std=c11 -O2 -Wall -Wextra -Werror -Iinclude -Itests/{boundary,draws,differential,load})
 
 fail() {
@@ -70,9 +72,11 @@ check_stored() { # CRATE [WORDS OF ITS make...]
 build_archive() { # TARGET; it sets `archive`
   need make make
   archive=$(make --silent TARGET="$1")
+  # For wasm64 there is more, behind it.
+  archive=${archive%%$'\n'*}
 }
 
-# For x86-64 an Arm machine cross-compiles and emulates.
+# For another machine this one cross-compiles and emulates.
 prepare_machine() { # TARGET; it sets `compiler` and `emulator`
   need_kit
   case "$1 on $own" in
@@ -88,8 +92,31 @@ prepare_machine() { # TARGET; it sets `compiler` and `emulator`
       emulator=("$kit/$toolchain/bin/qemu-x86_64")
       [ -x "${emulator[0]}" ] || fail "the kit has no emulator at ${emulator[0]}"
       ;;
+    'aarch64-linux on x86_64-linux')
+      need aarch64-linux-gnu-gcc gcc-aarch64-linux-gnu libc6-dev-arm64-cross
+      need qemu-aarch64 qemu-user
+      compiler=(aarch64-linux-gnu-gcc -static)
+      emulator=(qemu-aarch64)
+      ;;
+    'x86_64-windows on x86_64-linux')
+      need x86_64-w64-mingw32-gcc gcc-mingw-w64-x86-64-posix
+      need wine wine wine64
+      compiler=(x86_64-w64-mingw32-gcc -static)
+      # A folder of its own for the system that it plays, without the parts that it would ask to fetch.
+      emulator=(env WINEPREFIX="$PWD/target/wine" WINEDEBUG=-all WINEDLLOVERRIDES=mscoree,mshtml= wine)
+      ;;
     *) fail "no way known to run programs of $1" ;;
   esac
+}
+
+# What CMake says is kept beside the folder in which it builds.
+configure() { # SOURCE FOLDER PREFIX WORDS...
+  mkdir -p "$2"
+  cmake -S "$1" -B "$2" -DCMAKE_PREFIX_PATH="$3" "${@:4}" >"$2.log" 2>&1
+}
+
+build_by_cmake() { # SOURCE FOLDER PREFIX WORDS...
+  configure "$@" && cmake --build "$2" >>"$2.log" 2>&1 || fail "CMake does not build $1: $(cat "$2.log")"
 }
 
 # The differential driver, at `program`, for the oracle's ranges of keys.

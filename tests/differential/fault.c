@@ -5,7 +5,7 @@
 #include <setjmp.h>
 #include <signal.h>
 
-#include "run.h"
+#include "fail.h"
 
 static sigjmp_buf before_call;
 static volatile sig_atomic_t in_call;

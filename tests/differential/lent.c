@@ -7,7 +7,7 @@
 #include <sys/mman.h>
 #include <unistd.h>
 
-#include "run.h"
+#include "fail.h"
 
 enum { CANARY = 64 };
 

@@ -1,25 +1,13 @@
-#define _GNU_SOURCE /* getline, program_invocation_short_name */
+#define _GNU_SOURCE /* getline */
 
 #include "run.h"
 
-#include <errno.h>
 #include <inttypes.h>
 #include <stdarg.h>
 #include <stdlib.h>
 #include <string.h>
 
 enum { MOST_MISMATCHES = 10 };
-
-void fail(const char *format, ...)
-{
-    va_list words;
-    va_start(words, format);
-    fprintf(stderr, "%s: ", program_invocation_short_name);
-    vfprintf(stderr, format, words);
-    fputc('\n', stderr);
-    va_end(words);
-    exit(EXIT_FAILURE);
-}
 
 /* The next line without its LF; NULL at the end of input. */
 static const char *next_line(struct run *run)

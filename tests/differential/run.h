@@ -2,6 +2,7 @@
 #ifndef RUN_H
 #define RUN_H
 
+#include "fail.h"
 #include "functions.h"
 
 enum mode { REQUESTING, CHECKING };
@@ -17,9 +18,6 @@ struct run {
     char *line;
     size_t line_room;
 };
-
-/* Says why and ends the run as failed. */
-_Noreturn void fail(const char *format, ...);
 
 /* The oracle's line for this call; NULL where the call was only to be requested. */
 const char *oracle_answer(struct run *run, const struct call *call);

@@ -2,16 +2,17 @@
    the lowest byte that lost its paint tells. */
 #include <stdlib.h>
 #include <string.h>
+#ifndef _WIN32
 #include <ucontext.h>
 
 #include "lent.h"
+#endif
+#include "fail.h"
 #include "made.h"
-#include "run.h"
 
-enum { STACK = 1 << 14, PAINT = 0xA7, MOST_ALLOWED = 1 << 12 };
+enum { STACK = 1 << 14, PAINT = 0xA7 };
 
-static uint8_t *stack; /* behind a page that faults */
-static ucontext_t outside, inside;
+static uint8_t *stack;
 static const struct made *making;
 static _Alignas(uint64_t) uint8_t out[MOST_ROOM]; /* for words too */
 static uint8_t *caller; /* where the frame of the call's maker begins */
@@ -24,8 +25,26 @@ static void make(void)
     answer = making->call.function->callee(&making->call, out);
 }
 
+#ifdef _WIN32
+/* There are no contexts, and the stack's register is set by hand. */
 static void call_inside(void)
 {
+    __asm__ volatile("mov %%rsp, %%rbx; mov %0, %%rsp; sub $32, %%rsp; call *%1; mov %%rbx, %%rsp"
+                     :
+                     : "r"(stack + STACK), "r"(make)
+                     : "rbx", "rax", "rcx", "rdx", "r8", "r9", "r10", "r11", "xmm0", "xmm1", "xmm2",
+                       "xmm3", "xmm4", "xmm5", "memory", "cc");
+}
+
+static uint8_t *open_stack(void)
+{
+    static _Alignas(64) uint8_t bytes[STACK];
+    return bytes;
+}
+#else
+static void call_inside(void)
+{
+    static ucontext_t outside, inside;
     if (getcontext(&inside) != 0)
         fail("there is no context");
     inside.uc_stack.ss_sp = stack;
@@ -35,6 +54,13 @@ static void call_inside(void)
     if (swapcontext(&outside, &inside) != 0)
         fail("there is no way into a context");
 }
+
+/* Behind a page that faults. */
+static uint8_t *open_stack(void)
+{
+    return lent_open(STACK).start;
+}
+#endif
 
 /* The bytes below the maker's frame; those that were used are painted again. */
 static size_t use_of(const struct made *made)
@@ -66,18 +92,36 @@ static size_t largest_use(unsigned function, uint64_t count)
     return largest;
 }
 
+/* What the header says of each: 1.5, 1.1 and 0.5 KiB. */
+static size_t most_told(unsigned function)
+{
+    switch (function) {
+    case FUNCTION_harmony:
+        return 1536;
+    case FUNCTION_candidates:
+    case FUNCTION_candidates_strict:
+    case FUNCTION_candidates_sharp:
+    case FUNCTION_candidates_strict_sharp:
+    case FUNCTION_voicing:
+    case FUNCTION_voicing_within:
+        return 1126;
+    default:
+        return 512;
+    }
+}
+
 int main(int count, char **words)
 {
     if (count != 3)
         fail("usage: stack MACHINE CALLS");
-    stack = lent_open(STACK).start;
+    stack = open_stack();
     memset(stack, PAINT, STACK);
     printf("stack, bytes, %s:", words[1]);
     for (unsigned function = 0; function < FUNCTIONS; function++) {
         size_t use = largest_use(function, strtoull(words[2], NULL, 10));
         printf("%s %s %zu", function == 0 ? "" : ",", functions[function].name, use);
-        if (use > MOST_ALLOWED)
-            fail("%s uses more stack than %d bytes", functions[function].name, MOST_ALLOWED);
+        if (use > most_told(function))
+            fail("%s uses more stack than the header says", functions[function].name);
     }
     printf("\n");
     return EXIT_SUCCESS;

@@ -10,8 +10,8 @@
 #include <time.h>
 
 #include "answers.h"
+#include "fail.h"
 #include "made.h"
-#include "run.h"
 
 /* A function is slow when each of its calls takes this long, as a search of all sets does. */
 enum { THREADS = 8, EACH = 200, ROUNDS = 500, SLOW_ROUNDS = 10, SLOW_MICROSECONDS = 20 };

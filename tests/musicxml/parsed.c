@@ -4,7 +4,7 @@
 #include <stdbool.h>
 #include <string.h>
 
-#include "run.h"
+#include "fail.h"
 
 enum { MOST_ELEMENTS = 64, DEEPEST = 8 };
 

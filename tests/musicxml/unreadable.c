@@ -2,9 +2,9 @@
 
 #include <string.h>
 
+#include "fail.h"
 #include "length.h"
 #include "reading.h"
-#include "run.h"
 
 #define ELEMENT(...) "<harmony>" __VA_ARGS__ "</harmony>"
 #define ROOT "<root><root-step>C</root-step></root>"
