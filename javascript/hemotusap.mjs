@@ -11,7 +11,8 @@
 // and where the engine has no memory for that, it throws a RangeError; nothing else is thrown.
 //
 // A number is any value. What is no whole number of 32 bits is taken as the highest of them, or where
-// numbers may be below 0 as the lowest, and these are good for no call: so 4294967441 is not 145.
+// numbers may be below 0 as the lowest, which is a bad one wherever one can be bad: so 4294967441 is
+// not 145. Such a lead is none, and such a candidate is not there.
 //
 // Where bytes are written, the answer is that part of the output. A refused call answers a Refusal,
 // and its output holds what it held.
@@ -50,8 +51,10 @@ export class Refusal {
 }
 
 // A text of the library's from its bytes, and the bytes of one.
-export const text = (bytes) => new TextDecoder().decode(bytes);
-export const bytes = (text) => new TextEncoder().encode(text);
+const decoder = new TextDecoder();
+const encoder = new TextEncoder();
+export const text = (bytes) => decoder.decode(bytes);
+export const bytes = (text) => encoder.encode(text);
 
 // The sets of a listing: two bytes each, the higher one first.
 export function sets(listed) {

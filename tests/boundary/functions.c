@@ -56,6 +56,11 @@ static size_t count_of(enum kind kind, const struct function *function)
     return count;
 }
 
+bool function_reads(const struct function *function)
+{
+    return count_of(AN_INPUT, function) > 0;
+}
+
 bool function_writes(const struct function *function)
 {
     return count_of(AN_OUTPUT, function) > 0;

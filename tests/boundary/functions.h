@@ -65,6 +65,9 @@ extern const struct function functions[FUNCTIONS];
                           .input_count = 1,                                                \
                           .room = NO_OUTPUT})
 
+/* Whether it is lent bytes to read. */
+bool function_reads(const struct function *function);
+
 /* Whether its answer counts the bytes of an output that it writes.. */
 bool function_writes(const struct function *function);
 

@@ -143,9 +143,13 @@ tell_run() { # TARGET WHERE
   printf '%s: all %s requests answered, and the example host%s\n' "$1" "$(wc -l <crates/requests/stdin)" "${2:+, $2}"
 }
 
-run_in_node() {
-  need_node
+check_in_node() {
   check_replay 'wasm64 in node' "${node[@]}" tests/targets/node.mjs
   check_host 'in node' "${node[@]}" examples/host/main.mjs
+}
+
+run_in_node() {
+  need_node
+  check_in_node
   tell_run wasm64 "in $(node --version | sed 's/^v/node /')"
 }

@@ -54,14 +54,6 @@ static LONG CALLBACK on_fault(EXCEPTION_POINTERS *fault)
     fail("there is no way up the stack");
 }
 
-static bool is_lent(const struct function *function)
-{
-    for (const struct parameter *at = function->parameters; at->kind != NO_PARAMETER; at++)
-        if (at->kind == AN_INPUT || at->kind == AN_OUTPUT)
-            return true;
-    return false;
-}
-
 int main(void)
 {
     static const int64_t numbers[MOST_PARAMETERS] = {1, 1, 1, 1, 1, 1};
@@ -71,7 +63,7 @@ int main(void)
     AddVectoredExceptionHandler(1, on_fault);
     for (unsigned at = 0; at < FUNCTIONS; at++) {
         const struct function *function = &functions[at];
-        if (!is_lent(function))
+        if (!function_reads(function) && !function_writes(function))
             continue;
         attempt(&(const struct call){
             .function = function, .numbers = numbers, .inputs = inputs, .room = ROOM});
