@@ -6,7 +6,7 @@
 --     DecidesShown   or, of a reference that it hands back, where that points and the bytes there: what else it has is of the logic, and not of the machine
 --     F-decides      the contract of `F` does
 use denote.Ref.{Bor}
-use Rattle.answer.proofs.Kit.{◌≡◌, sym, ◌∙◌, List, ℕ, RefT, now}
+use Rattle.answer.proofs.Kit.{◌≡◌, sym, ◌∙◌, List, ℕ, Bor}
 use Rattle.answer.proofs.refusal.Refusal.number.Reads as number
 use Rattle.answer.proofs.refusal.Refusal.place.Reads as place
 use Rattle.answer.proofs.output.give.Reads as give
@@ -37,8 +37,8 @@ number_decides κs a r r' s s' = determined
 pub place_decides : Decides place.Post
 place_decides κs a r r' s s' = determined
 
-pub give_decides : DecidesWith give.Post (λ κs s. now s.1.0)
+pub give_decides : DecidesWith give.Post (λ κs s. s.1.0.now)
 give_decides κs a r r' s s' = both
 
-pub put_decides : DecidesWith put.Post (λ κs s. now s.0)
+pub put_decides : DecidesWith put.Post (λ κs s. s.0.now)
 put_decides κs a r r' s s' = both

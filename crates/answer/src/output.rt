@@ -4,7 +4,7 @@ ghost use Rattle.answer.specs.Replies.{text, Answered};
 use crate::refusal::Refusal;
 
 // What a call that writes answers: the count of bytes written, or why it wrote none.
-#[derive(Drop)]
+#[derive(Clone, Copy)]
 pub enum Output {
     Written(usize),
     Refused(Refusal),

@@ -3,7 +3,7 @@ ghost use Rattle.std.specs.Prelude.{◌≡◌};
 ghost use Rattle.answer.specs.Refusals.{told_of};
 
 // A bad pair's place is its position among the pairs, from 0, and that of a code that is no key its position in the list.
-#[derive(Drop)]
+#[derive(Clone, Copy)]
 pub enum Refusal {
     NotASet,
     BadClass,
@@ -18,13 +18,13 @@ pub enum Refusal {
 }
 
 // What a test of the input answers.
-#[derive(Drop)]
+#[derive(Clone, Copy)]
 pub enum Checked {
     Passed,
     Refused(Refusal),
 }
 
-#[derive(Drop)]
+#[derive(Clone, Copy)]
 pub enum Place {
     None,
     At(usize),

@@ -6,7 +6,7 @@ ghost use Rattle.candidates.specs.private.Finds.{Finds};
 const CLASSES: u32 = 12;
 
 // The set of a list's classes, and how many they are.
-#[derive(Drop)]
+#[derive(Clone, Copy)]
 pub struct Found {
     pub set: u32,
     pub count: usize,

@@ -14,7 +14,7 @@ const ZERO: u8 = 48;
 const NINE: u8 = 57;
 
 // How many codes were read, or that the line is bad.
-#[derive(Drop)]
+#[derive(Clone, Copy)]
 pub enum Codes {
     Read(usize),
     Bad,

@@ -12,7 +12,7 @@ pub const KEPT: usize = 1025;
 const LINE_FEED: u8 = 10;
 
 // How many bytes of a line are kept, and how many were written.
-#[derive(Drop)]
+#[derive(Clone, Copy)]
 pub struct Taken {
     pub kept: usize,
     pub written: usize,

@@ -1,5 +1,7 @@
 // Chord candidates for the lines of MIDI codes on standard input, `60 64 67` say: a line for each candidate, then a full
 // stop; a question mark for a line that can't be read, or has a code that is no key.
+#![tactic(auto)]
+
 mod codes;
 mod input;
 mod reply;

@@ -28,7 +28,7 @@ const DEGREE_11: u32 = 1 << 11;
 const DEGREE_13: u32 = 1 << 13;
 
 // All that a suffix names of a rooted set. Of the adds, the nine is the one that goes in behind the `6`; the third, under sus, is the last.
-#[derive(Drop)]
+#[derive(Clone, Copy)]
 pub struct Descriptor {
     pub set: u32,
     pub intervals: u32,
@@ -42,14 +42,14 @@ pub struct Descriptor {
     pub omits: u32,
 }
 
-#[derive(Drop)]
+#[derive(Clone, Copy)]
 pub enum DescriptorAnswer {
     Is(Descriptor),
     Refused(Refusal),
 }
 
 // What the extensions become: the last that is stacked, the adds, and of these the 9 behind the `6`.
-#[derive(Drop)]
+#[derive(Clone, Copy)]
 pub struct Split {
     pub modifier: MaybeInterval,
     pub adds: u32,

@@ -6,7 +6,7 @@ use qualities::quality::ChordQuality;
 
 // A quality's word up to where its modifier stands; whether it shows one, and its word without one; the degree that it has of its
 // own; whether it writes a `6`; whether every extension is an add.
-#[derive(Drop)]
+#[derive(Clone, Copy)]
 pub struct Kind(pub u64, pub bool, pub u64, pub u32, pub bool, pub bool);
 
 const NONE: u64 = 0;

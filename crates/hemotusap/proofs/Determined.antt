@@ -1,6 +1,6 @@
 -- Determinacy of the boundary's contracts (`Rattle.answer.proofs.Determined` has the law).
 --     F-decides      the contract of `F` allows one answer to each call, and one content of the range that it is lent, or of the two numbers
-use Rattle.answer.proofs.Kit.{[], ◌∷◌, ap₂, now}
+use Rattle.answer.proofs.Kit.{[], ◌∷◌, ap₂}
 use Rattle.answer.proofs.Determined.{Decides, DecidesWith, determined, both}
 use Rattle.hemotusap.proofs.naming.hemotusap_quality.Reads as quality
 use Rattle.hemotusap.proofs.moves.hemotusap_get_note.Reads as get-note
@@ -29,25 +29,25 @@ get_note_decides κs a r r' s s' = determined
 pub transpose_decides : Decides transpose.Post
 transpose_decides κs a r r' s s' = determined
 
-pub note_text_decides : DecidesWith note-text.Post (λ κs s. now s.1.1.0)
+pub note_text_decides : DecidesWith note-text.Post (λ κs s. s.1.1.0.now)
 note_text_decides κs a r r' s s' = both
 
-pub suffix_decides : DecidesWith suffix.Post (λ κs s. now s.1.0)
+pub suffix_decides : DecidesWith suffix.Post (λ κs s. s.1.0.now)
 suffix_decides κs a r r' s s' = both
 
-pub candidates_decides : DecidesWith candidates.Post (λ κs s. now s.1.0)
+pub candidates_decides : DecidesWith candidates.Post (λ κs s. s.1.0.now)
 candidates_decides κs a r r' s s' = both
 
-pub candidates_strict_decides : DecidesWith candidates-strict.Post (λ κs s. now s.1.0)
+pub candidates_strict_decides : DecidesWith candidates-strict.Post (λ κs s. s.1.0.now)
 candidates_strict_decides κs a r r' s s' = both
 
-pub candidates_sharp_decides : DecidesWith candidates-sharp.Post (λ κs s. now s.1.0)
+pub candidates_sharp_decides : DecidesWith candidates-sharp.Post (λ κs s. s.1.0.now)
 candidates_sharp_decides κs a r r' s s' = both
 
-pub candidates_strict_sharp_decides : DecidesWith candidates-strict-sharp.Post (λ κs s. now s.1.0)
+pub candidates_strict_sharp_decides : DecidesWith candidates-strict-sharp.Post (λ κs s. s.1.0.now)
 candidates_strict_sharp_decides κs a r r' s s' = both
 
-pub candidate_line_decides : DecidesWith candidate_line.Post (λ κs s. now s.1.1.1.1.0 ∷ now s.1.1.1.1.1.0 ∷ [])
+pub candidate_line_decides : DecidesWith candidate_line.Post (λ κs s. s.1.1.1.1.0.now ∷ s.1.1.1.1.1.0.now ∷ [])
 candidate_line_decides κs a r r' s s' p q =
     (determined p.0 q.0, ap₂ (λ start length. start ∷ length ∷ []) (determined p.1 q.1) (determined p.2 q.2))
 
@@ -57,17 +57,17 @@ candidate_count_decides κs a r r' s s' = determined
 pub candidate_decides : Decides candidate.Post
 candidate_decides κs a r r' s s' = determined
 
-pub listing_decides : DecidesWith listing.Post (λ κs s. now s.1.0)
+pub listing_decides : DecidesWith listing.Post (λ κs s. s.1.0.now)
 listing_decides κs a r r' s s' = both
 
-pub tones_decides : DecidesWith tones.Post (λ κs s. now s.1.1.0)
+pub tones_decides : DecidesWith tones.Post (λ κs s. s.1.1.0.now)
 tones_decides κs a r r' s s' = both
 
-pub voicing_decides : DecidesWith voicing.Post (λ κs s. now s.1.1.1.1.1.0)
+pub voicing_decides : DecidesWith voicing.Post (λ κs s. s.1.1.1.1.1.0.now)
 voicing_decides κs a r r' s s' = both
 
-pub voicing_within_decides : DecidesWith voicing-within.Post (λ κs s. now s.1.1.1.1.1.1.1.0)
+pub voicing_within_decides : DecidesWith voicing-within.Post (λ κs s. s.1.1.1.1.1.1.1.0.now)
 voicing_within_decides κs a r r' s s' = both
 
-pub harmony_decides : DecidesWith harmony.Post (λ κs s. now s.1.1.1.0)
+pub harmony_decides : DecidesWith harmony.Post (λ κs s. s.1.1.1.0.now)
 harmony_decides κs a r r' s s' = both

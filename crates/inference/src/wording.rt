@@ -24,7 +24,7 @@ const OMIT: u64 = 0x0400000074696d6f; // omit
 pub(crate) const NINE: u64 = 0x0100000000000039; // 9
 
 // What stands before the first of some parts.
-#[derive(Drop)]
+#[derive(Clone, Copy)]
 pub enum Prefix {
     None,
     Add,

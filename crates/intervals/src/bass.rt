@@ -4,7 +4,7 @@ ghost use Rattle.intervals.specs.Bass.{is_bass};
 
 use crate::set::LAST_CLASS;
 
-#[derive(Drop)]
+#[derive(Clone, Copy)]
 pub enum Bass {
     None,
     Class(u32),

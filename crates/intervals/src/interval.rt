@@ -4,7 +4,7 @@ ghost use Rattle.answer.specs.Words.{packed};
 ghost use Rattle.intervals.specs.private.Rows.{Tells};
 ghost use Rattle.intervals.specs.Intervals.{numbered, number_of, semitones_of, degree_of, to_degree_of, notation_of, numeric_of};
 
-#[derive(Drop)]
+#[derive(Clone, Copy)]
 pub enum Interval {
     Unison,
     MinorSecond,
@@ -31,7 +31,7 @@ pub enum Interval {
     Thirteenth,
 }
 
-#[derive(Drop)]
+#[derive(Clone, Copy)]
 pub enum IntDegree {
     Root,
     Second,
@@ -91,11 +91,11 @@ type D = IntDegree;
 
 // What the table says of an interval: its number, its semitones above the root, its degree in a chord (`From<Interval>`: b5
 // is a fourth), the degree of its natural form (`to_degree`: b5 is a fifth), and how a chord writes it, as a word.
-#[derive(Drop)]
+#[derive(Clone, Copy)]
 struct About(u32, u32, IntDegree, IntDegree, u64);
 
 // The interval of a number, where there is one.
-#[derive(Drop)]
+#[derive(Clone, Copy)]
 pub enum MaybeInterval {
     Is(Interval),
     Nothing,

@@ -9,7 +9,7 @@ use pool::pool::Tone;
 pub const OCTAVE_KEY: u32 = 48;
 
 // A key that a tone offers, how far it is from the one wanted, and the interval that leaves with it.
-#[derive(Drop)]
+#[derive(Clone, Copy)]
 pub struct Offer {
     pub rank: u8,
     pub key: u8,

@@ -13,7 +13,7 @@ use pool::order::ordered_pool;
 use pool::pool::{Pool, Tone};
 
 // What is left of the pool once the lead has left, and the lead. The pool comes first, where a copy of it is aligned.
-#[derive(Drop)]
+#[derive(Clone, Copy)]
 pub struct Led {
     pub left: Pool,
     pub key: u8,

@@ -1,2 +1,4 @@
 // The lead of a voicing, and the pool that it leaves.
+#![tactic(auto)]
+
 pub mod lead;

@@ -8,7 +8,7 @@
 --         candidate_moves, host_candidate_moves, candidate_count_stays, host_candidate_count_stays     and 1 of those that tell the parts
 -- All of it holds for any table of names, so for flats and sharps by one proof (5); only of lines as they are read it asks that names be brief, so that none has an end of line
 -- in it. That no code passes 255 is asked nowhere: a call can't be given a list with such a code.
-use Rattle.answer.proofs.Kit.{◌≡◌, refl, sym, ap, ap₂, ◌∙◌, T, List, map, flat_map, ℕ, ◌*◌, length, length-map, now, pos}
+use Rattle.answer.proofs.Kit.{◌≡◌, refl, sym, ap, ap₂, ◌∙◌, T, List, map, flat_map, ℕ, ◌*◌, length, length-map, pos}
 use Rattle.answer.specs.Lines.{lines_of}
 use Rattle.answer.specs.Replies.{text}
 use Rattle.answer.specs.declared.output.Output.TheVariants.{Written}
@@ -105,45 +105,45 @@ keeps Call listed = record {
 }
 
 -- the library's four calls, and the boundary's: `a` are a call's arguments in their order, `s` what it left of them
-pub candidates_in_keeps : KeepsSymbols (Wrote Written candidates-in.Post (λ κs a. (a.0, now a.1.0)) (λ κs s. now s.1.1.0))
-candidates_in_keeps = keeps _ (listing_written library any_codes (λ κs a. now a.1.1.0) (λ κs a r s made. made))
+pub candidates_in_keeps : KeepsSymbols (Wrote Written candidates-in.Post (λ κs a. (a.0, a.1.0.now)) (λ κs s. s.1.1.0.now))
+candidates_in_keeps = keeps _ (listing_written library any_codes (λ κs a. a.1.1.0.now) (λ κs a r s made. made))
 
-pub candidates_keeps : KeepsSymbols (Wrote Written candidates.Post (λ κs a. (Flats, now a.0)) (λ κs s. now s.1.0))
-candidates_keeps = keeps _ (listing_written library any_codes (λ κs a. now a.1.0) (λ κs a r s made. made))
+pub candidates_keeps : KeepsSymbols (Wrote Written candidates.Post (λ κs a. (Flats, a.0.now)) (λ κs s. s.1.0.now))
+candidates_keeps = keeps _ (listing_written library any_codes (λ κs a. a.1.0.now) (λ κs a r s made. made))
 
-pub candidates_strict_in_keeps : KeepsSymbols (Wrote Written candidates-strict-in.Post (λ κs a. (a.0, now a.1.0)) (λ κs s. now s.1.1.0))
-candidates_strict_in_keeps = keeps _ (listing_written library keys_alone (λ κs a. now a.1.1.0) (λ κs a r s made. made))
+pub candidates_strict_in_keeps : KeepsSymbols (Wrote Written candidates-strict-in.Post (λ κs a. (a.0, a.1.0.now)) (λ κs s. s.1.1.0.now))
+candidates_strict_in_keeps = keeps _ (listing_written library keys_alone (λ κs a. a.1.1.0.now) (λ κs a r s made. made))
 
-pub candidates_strict_keeps : KeepsSymbols (Wrote Written candidates-strict.Post (λ κs a. (Flats, now a.0)) (λ κs s. now s.1.0))
-candidates_strict_keeps = keeps _ (listing_written library keys_alone (λ κs a. now a.1.0) (λ κs a r s made. made))
+pub candidates_strict_keeps : KeepsSymbols (Wrote Written candidates-strict.Post (λ κs a. (Flats, a.0.now)) (λ κs s. s.1.0.now))
+candidates_strict_keeps = keeps _ (listing_written library keys_alone (λ κs a. a.1.0.now) (λ κs a r s made. made))
 
-pub host_candidates_keeps : KeepsSymbols (Wrote pos host-candidates.Post (λ κs a. (Flats, now a.0)) (λ κs s. now s.1.0))
-host_candidates_keeps = keeps _ (listing_written host any_codes (λ κs a. now a.1.0) (λ κs a r s made. made))
+pub host_candidates_keeps : KeepsSymbols (Wrote pos host-candidates.Post (λ κs a. (Flats, a.0.now)) (λ κs s. s.1.0.now))
+host_candidates_keeps = keeps _ (listing_written host any_codes (λ κs a. a.1.0.now) (λ κs a r s made. made))
 
-pub host_candidates_sharp_keeps : KeepsSymbols (Wrote pos host-candidates-sharp.Post (λ κs a. (Sharps, now a.0)) (λ κs s. now s.1.0))
-host_candidates_sharp_keeps = keeps _ (listing_written host any_codes (λ κs a. now a.1.0) (λ κs a r s made. made))
+pub host_candidates_sharp_keeps : KeepsSymbols (Wrote pos host-candidates-sharp.Post (λ κs a. (Sharps, a.0.now)) (λ κs s. s.1.0.now))
+host_candidates_sharp_keeps = keeps _ (listing_written host any_codes (λ κs a. a.1.0.now) (λ κs a r s made. made))
 
-pub host_candidates_strict_keeps : KeepsSymbols (Wrote pos host-candidates-strict.Post (λ κs a. (Flats, now a.0)) (λ κs s. now s.1.0))
-host_candidates_strict_keeps = keeps _ (listing_written host keys_alone (λ κs a. now a.1.0) (λ κs a r s made. made))
+pub host_candidates_strict_keeps : KeepsSymbols (Wrote pos host-candidates-strict.Post (λ κs a. (Flats, a.0.now)) (λ κs s. s.1.0.now))
+host_candidates_strict_keeps = keeps _ (listing_written host keys_alone (λ κs a. a.1.0.now) (λ κs a r s made. made))
 
-pub host_candidates_strict_sharp_keeps : KeepsSymbols (Wrote pos host-candidates-strict-sharp.Post (λ κs a. (Sharps, now a.0)) (λ κs s. now s.1.0))
-host_candidates_strict_sharp_keeps = keeps _ (listing_written host keys_alone (λ κs a. now a.1.0) (λ κs a r s made. made))
+pub host_candidates_strict_sharp_keeps : KeepsSymbols (Wrote pos host-candidates-strict-sharp.Post (λ κs a. (Sharps, a.0.now)) (λ κs s. s.1.0.now))
+host_candidates_strict_sharp_keeps = keeps _ (listing_written host keys_alone (λ κs a. a.1.0.now) (λ κs a r s made. made))
 
 -- and those that tell the parts: a candidate of the same number has root and bass raised, or there is none
-pub candidate_moves : TwoAnswers (λ n r r'. r' ≡ answer_raised n r) candidate.Post (λ κs a. now a.0) (λ κs a. a.1.0)
+pub candidate_moves : TwoAnswers (λ n r r'. r' ≡ answer_raised n r) candidate.Post (λ κs a. a.0.now) (λ κs a. a.1.0)
 candidate_moves κs κs' a a' r r' s s' n made made' moved same =
-    made' ∙ ap₂ candidate_at moved same ∙ part_moves n (now a.0) a.1.0 ∙ ap (answer_raised n) (sym made)
+    made' ∙ ap₂ candidate_at moved same ∙ part_moves n a.0.now a.1.0 ∙ ap (answer_raised n) (sym made)
 
 -- there are as many
-pub candidate_count_stays : TwoAnswers (λ n r r'. r' ≡ r) candidate-count.Post (λ κs a. now a.0) (λ κs a. 0)
-candidate_count_stays κs κs' a a' r r' s s' n made made' moved same = made' ∙ ap (λ (l : List ℕ). class_count (class_set l)) moved ∙ count_stays n (now a.0) ∙ sym made
+pub candidate_count_stays : TwoAnswers (λ n r r'. r' ≡ r) candidate-count.Post (λ κs a. a.0.now) (λ κs a. 0)
+candidate_count_stays κs κs' a a' r r' s s' n made made' moved same = made' ∙ ap (λ (l : List ℕ). class_count (class_set l)) moved ∙ count_stays n a.0.now ∙ sym made
 
 -- a host is told the same as numbers
 pub host_candidate_moves : TwoAnswers (λ n r r'. (c : MaybeCandidate) × (r ≡ candidate_number c) × (r' ≡ candidate_number (answer_raised n c))) host-candidate.Post
-    (λ κs a. now a.0) (λ κs a. a.1.0)
+    (λ κs a. a.0.now) (λ κs a. a.1.0)
 host_candidate_moves κs κs' a a' r r' s s' n made made' moved same =
-    (candidate_at (now a.0) a.1.0, made, made' ∙ ap candidate_number (ap₂ candidate_at moved same ∙ part_moves n (now a.0) a.1.0))
+    (candidate_at a.0.now a.1.0, made, made' ∙ ap candidate_number (ap₂ candidate_at moved same ∙ part_moves n a.0.now a.1.0))
 
-pub host_candidate_count_stays : TwoAnswers (λ n r r'. r' ≡ r) host-candidate-count.Post (λ κs a. now a.0) (λ κs a. 0)
+pub host_candidate_count_stays : TwoAnswers (λ n r r'. r' ≡ r) host-candidate-count.Post (λ κs a. a.0.now) (λ κs a. 0)
 host_candidate_count_stays κs κs' a a' r r' s s' n made made' moved same =
-    made' ∙ ap (λ (l : List ℕ). pos (class_count (class_set l))) moved ∙ ap pos (count_stays n (now a.0)) ∙ sym made
+    made' ∙ ap (λ (l : List ℕ). pos (class_count (class_set l))) moved ∙ ap pos (count_stays n a.0.now) ∙ sym made

@@ -13,7 +13,7 @@ use crate::texts::{Part, put_part};
 use answer::word::put;
 
 // A degree's value and alter, as words.
-#[derive(Drop)]
+#[derive(Clone, Copy)]
 struct Row(u64, u64);
 
 const ZERO: u64 = 0x0100000000000030; // 0

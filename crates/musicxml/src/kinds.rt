@@ -5,7 +5,7 @@ use crate::texts::Text;
 use qualities::quality::ChordQuality;
 
 // A kind's name, the classes of its third and fifth, and the intervals whose class is no tone of it, a bit for each one's number.
-#[derive(Drop)]
+#[derive(Clone, Copy)]
 pub struct Kind {
     pub name: Text,
     pub third: u32,

@@ -5,11 +5,11 @@ ghost use Rattle.musicxml.specs.private.Texts.{words_text, are_words, Says, part
 
 use answer::word::put;
 
-#[derive(Drop)]
+#[derive(Clone, Copy)]
 pub struct Text(pub u64, pub u64, pub u64, pub u64, pub u64);
 
 // What is the same in every element.
-#[derive(Drop)]
+#[derive(Clone, Copy)]
 pub enum Part {
     HarmonyRoot,
     RootStep,

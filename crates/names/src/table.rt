@@ -10,14 +10,14 @@ use notes::note::{Accidental, Note, NoteAnswer};
 type A = Accidental;
 
 // Which name a black key has.
-#[derive(Drop)]
+#[derive(Clone, Copy)]
 pub enum Names {
     Flats,
     Sharps,
 }
 
 // A class's letter and accidental, and its flat and its sharp name as words: a name is not put together at each call.
-#[derive(Drop)]
+#[derive(Clone, Copy)]
 struct Row(u32, A, u64, u64);
 
 // How many classes there are.

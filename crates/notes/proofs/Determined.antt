@@ -1,6 +1,5 @@
 -- Determinacy of the crate's public contracts (`Rattle.answer.proofs.Determined` has the law).
 --     F-decides      the contract of `F` allows one answer to each call, and one content of the range that it is lent
-use Rattle.answer.proofs.Kit.{now}
 use Rattle.answer.proofs.Determined.{Decides, DecidesWith, determined, both}
 use Rattle.notes.proofs.note.Note.new.Reads as new
 use Rattle.notes.proofs.note.Note.to_semitone.Reads as to-semitone
@@ -24,5 +23,5 @@ transpose_decides κs a r r' s s' = determined
 pub to_word_decides : Decides to_word.Post
 to_word_decides κs a r r' s s' = determined
 
-pub text_decides : DecidesWith text.Post (λ κs s. now s.1.0)
+pub text_decides : DecidesWith text.Post (λ κs s. s.1.0.now)
 text_decides κs a r r' s s' = both

@@ -1,2 +1,4 @@
 // Notes and their moves: the Rust's `chord/note.rs`.
+#![tactic(auto)]
+
 pub mod note;

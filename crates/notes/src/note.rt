@@ -11,26 +11,26 @@ use answer::refusal::Refusal;
 use answer::word::put;
 
 // No accidental, or so many sharps; flats are negative.
-#[derive(Drop)]
+#[derive(Clone, Copy)]
 pub enum Accidental {
     None,
     Count(i32),
 }
 
 // Letters are 0 to 6: C D E F G A B.
-#[derive(Drop)]
+#[derive(Clone, Copy)]
 pub struct Note {
     pub letter: u32,
     pub accidental: Accidental,
 }
 
-#[derive(Drop)]
+#[derive(Clone, Copy)]
 pub enum SemitoneAnswer {
     Is(u32),
     Refused(Refusal),
 }
 
-#[derive(Drop)]
+#[derive(Clone, Copy)]
 pub enum NoteAnswer {
     Is(Note),
     Refused(Refusal),

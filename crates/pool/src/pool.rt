@@ -6,7 +6,7 @@ ghost use Rattle.pool.specs.private.Places.{blanks, pool_of};
 use intervals::interval::{Interval, MaybeInterval};
 
 // A tone of a chord: its interval's semitones in one octave, its class, and its interval's number.
-#[derive(Drop)]
+#[derive(Clone, Copy)]
 pub struct Tone {
     pub base: u8,
     pub class: u8,
@@ -17,7 +17,7 @@ pub struct Tone {
 pub const MOST: usize = 16;
 
 // The first `count` of the tones are in the pool.
-#[derive(Drop)]
+#[derive(Clone, Copy)]
 pub struct Pool {
     pub tones: [Tone; 16],
     pub count: usize,

@@ -1,4 +1,6 @@
 // The engraver's proof sheet, row by row, as the library answers it. Crate `sheet` proves the first twelve rows.
+#![tactic(auto)]
+
 ghost use Rattle.std.specs.Prelude.{◌<◌};
 
 use answer::output::Output;

@@ -12,7 +12,7 @@ use intervals::interval::{
 };
 use intervals::set::LAST_SET;
 
-#[derive(Drop)]
+#[derive(Clone, Copy)]
 pub enum ChordQuality {
     Maj,
     Maj6,
@@ -29,7 +29,7 @@ pub enum ChordQuality {
     Bass,
 }
 
-#[derive(Drop)]
+#[derive(Clone, Copy)]
 pub enum QualityAnswer {
     Is(ChordQuality),
     Refused(Refusal),
@@ -161,7 +161,7 @@ fn first_rule(set: u32) -> ChordQuality
 
 // What the table says of a quality: its number, the classes that make it, the intervals that it shows as alterations and as
 // extensions, and the degrees of which its extensions are stacked.
-#[derive(Drop)]
+#[derive(Clone, Copy)]
 struct About(u32, u32, u32, u32, u32);
 
 impl ChordQuality {

@@ -14,6 +14,8 @@
 //
 // Of a candidate's line both listings are made of CODES, each in a range of full stops, of which the first LENGTH bytes are lent:
 // the listing whole or cut, or more than it. Behind the number stand the start, the length and the line.
+#![tactic(auto)]
+
 mod line;
 mod print;
 

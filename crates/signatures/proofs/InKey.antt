@@ -3,7 +3,7 @@
 --     past_last    and where it has none, the line is the empty part at the end of the flat listing
 --     handed_back  so a reference that `line` hands back shows that text
 use denote.Ref.{Bor}
-use Rattle.answer.proofs.Kit.{◌≡◌, refl, ap, ap₂, ◌∙◌, true, List, ℕ, length, take, drop, ℤ, RefT, now}
+use Rattle.answer.proofs.Kit.{◌≡◌, refl, ap, ap₂, ◌∙◌, true, List, ℕ, length, take, drop, ℤ, Bor}
 use Rattle.answer.specs.Lines.{line_at}
 use Rattle.names.specs.Names.{table_of}
 use Rattle.names.specs.declared.table.Names.{Names}
@@ -47,9 +47,9 @@ module _ (codes : List ℕ) (number : ℕ) (fifths : ℤ) (key : is_signature fi
     pub in_key : (part.names ≡ names) × (bytes_of (listing Flats codes) (listing Sharps codes) part ≡ symbol (table_of names) c)
     in_key = part_line (listing Flats codes) (listing Sharps codes) number fifths key (symbol (table_of names) c) (its_line (Is c) is)
 
-    pub handed_back : (flat sharp r : Bor (List ℕ)) → now flat ≡ listing Flats codes → now sharp ≡ listing Sharps codes
-        → PartOf (part_of (now flat) (now sharp) number fifths) flat sharp r → now r ≡ symbol (table_of names) c
+    pub handed_back : (flat sharp r : Bor (List ℕ)) → flat.now ≡ listing Flats codes → sharp.now ≡ listing Sharps codes
+        → PartOf (part_of flat.now sharp.now number fifths) flat sharp r → r.now ≡ symbol (table_of names) c
     handed_back flat sharp r e f back =
-        let p = part_of (now flat) (now sharp) number fifths in
+        let p = part_of flat.now sharp.now number fifths in
         back.bytes ∙ ap (λ (t : List ℕ). take p.length (drop p.start t)) (its_bytes p.names flat sharp)
         ∙ ap₂ (λ (x y : List ℕ). bytes_of x y (part_of x y number fifths)) e f ∙ in_key.1

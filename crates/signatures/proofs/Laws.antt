@@ -6,7 +6,7 @@
 --     part_outside   as it is outside the keys
 use denote.Ref.{Bor}
 use mathlib.Core.Option.{Option, none, some}
-use Rattle.answer.proofs.Kit.{◌≡◌, refl, ap, ◌∙◌, true, false, cond, List, ℕ, ◌+◌, ◌≤◌, arith, length, take, drop, ℤ, RefT, now}
+use Rattle.answer.proofs.Kit.{◌≡◌, refl, ap, ◌∙◌, true, false, cond, List, ℕ, ◌+◌, ◌≤◌, arith, length, take, drop, ℤ, Bor}
 use Rattle.answer.specs.Lines.{line_at, line_start}
 use Rattle.answer.proofs.Standing.{line_bytes, line_within}
 use Rattle.names.specs.declared.table.Names.{Names}
@@ -17,7 +17,7 @@ use Rattle.signatures.specs.declared.line.Part.{Part}
 use Rattle.signatures.specs.Signature.{is_signature, names_for, names_in}
 use Rattle.signatures.specs.Part.{found_at, found_in, listing_in, no_line, part_at, part_for, part_of}
 
-pub its_bytes : (names : Names) (flat sharp : Bor (List ℕ)) → now (listing_in names flat sharp) ≡ listing_in names (now flat) (now sharp)
+pub its_bytes : (names : Names) (flat sharp : Bor (List ℕ)) → (listing_in names flat sharp).now ≡ listing_in names flat.now sharp.now
 its_bytes Flats flat sharp = refl
 its_bytes Sharps flat sharp = refl
 

@@ -5,7 +5,7 @@ ghost use Rattle.signatures.specs.Part.{found_in};
 const LINE_FEED: u8 = 10;
 
 // Where a line begins and how many bytes it has, its LF not counted.
-#[derive(Drop)]
+#[derive(Clone, Copy)]
 pub enum Found {
     At(usize, usize),
     Nowhere,

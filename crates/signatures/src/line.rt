@@ -11,14 +11,14 @@ const MOST_FLATS: i32 = -7;
 const MOST_SHARPS: i32 = 7;
 
 // The names that a key signature calls for.
-#[derive(Drop)]
+#[derive(Clone, Copy)]
 pub enum Called {
     For(Names),
     Nothing,
 }
 
 // A part of the listing that has these names: its first byte, and how many it has.
-#[derive(Drop)]
+#[derive(Clone, Copy)]
 pub struct Part {
     pub names: Names,
     pub start: usize,

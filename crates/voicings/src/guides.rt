@@ -41,7 +41,7 @@ const SMALL: usize = 6;
 const VERY_SMALL: usize = 3;
 
 // Which sixths and sevenths are present in a pool: a sixth or a diminished seventh, and a minor seventh.
-#[derive(Drop)]
+#[derive(Clone, Copy)]
 pub struct Present {
     pub sixth: bool,
     pub seventh: bool,

@@ -14,7 +14,7 @@ use intervals::set::LAST_CLASS;
 use leads::lead::nearest_lead;
 use pairs::checks::check_pairs;
 
-#[derive(Drop)]
+#[derive(Clone, Copy)]
 pub enum Lead {
     None,
     Key(u8),
@@ -22,7 +22,7 @@ pub enum Lead {
 
 // A chord, but for its tones, which are pairs of a note class and an interval's number: its keys above the bass are from a lowest to a
 // highest. A lead is a wish, and may be beyond them; with none the highest is wanted.
-#[derive(Drop)]
+#[derive(Clone, Copy)]
 pub struct Chord {
     pub root: u32,
     pub bass: Bass,

@@ -1,5 +1,5 @@
 -- `chordlist::feed` meets its contract. The loop's invariant: the line holds what is kept after the first `i` bytes.
-use Rattle.answer.proofs.Kit.{◌≡◌, refl, sym, ◌∙◌, ◌-◌, ◌≤◌, arith, take, length-take-le, take-length, now, rules}
+use Rattle.answer.proofs.Kit.{◌≡◌, refl, sym, ◌∙◌, ◌-◌, ◌≤◌, arith, take, length-take-le, take-length, rules}
 use lib.ListN.{length as size}
 use Rattle.answer.specs.Written.{Writes}
 use Rattle.chordlist.specs.private.Calls.{most_printed}
@@ -23,7 +23,7 @@ within c = omega (arith, (fronted c.take_in.ensures.1).fits, c.take_in.auto.1.1.
 loop-holds : tie.Need-loop-init invariant-loop decreases-loop
 loop-holds c =
     let a = c.before.before.args in
-    (omega arith, c.before.before.requires.0, refl, refl, none_taken (now a.line) (now a.piece) a.length (omega (arith, c.before.before.requires)))
+    (omega arith, c.before.before.requires.0, refl, refl, none_taken a.line.now a.piece.now a.length (omega (arith, c.before.before.requires)))
 
 loop-again : tie.Need-loop-preserved invariant-loop decreases-loop
 loop-again c =
@@ -36,14 +36,14 @@ loop-again c =
       omega (arith, (fronted told).fits, h.invariant.2, s.requires.1),
       t.take_in.auto.1.0 ∙ h.invariant.2,
       t.take_in.auto.1.1.1.0 ∙ h.invariant.3,
-      one_taken (now s.args.line) (now s.args.piece) s.args.length h.i h.auto _ h.line _ (omega arith) h.invariant.4 told,
+      one_taken s.args.line.now s.args.piece.now s.args.length h.i h.auto _ h.line _ (omega arith) h.invariant.4 told,
     )
 
 returns : tie.Need-returns invariant-loop decreases-loop
 returns c =
     let h = c.before.loop in
     let s = c.before.before.before.before in
-    let end : h.i ≡ size (now s.args.piece) = omega arith in
+    let end : h.i ≡ size s.args.piece.now = omega arith in
     rw (end, take-length) at h.invariant.4
 
 pub feed_spec : {M : Type 1} → statement M

@@ -1,5 +1,5 @@
 -- `candidates::lines::candidates_in` meets its contract: the classes are found, their lines fill a buffer from the front, and those are given.
-use Rattle.answer.proofs.Kit.{◌≡◌, ap, ap₂, sym, subst, ◌∙◌, List, ℕ, arith, length, take, now, rules}
+use Rattle.answer.proofs.Kit.{◌≡◌, ap, ap₂, sym, subst, ◌∙◌, List, ℕ, arith, length, take, rules}
 use Rattle.answer.specs.Replies.{text, Answered}
 use Rattle.answer.proofs.Writing.{counted, within}
 use Rattle.names.specs.Names.{table_of}
@@ -22,7 +22,7 @@ put_lines_requires c κs =
 -- where the candidates stand
 stands : (c : tie.After-put-lines)
     → let s = c.before.before.before.before.before.before.before.before in
-    take c.put-lines.result c.put-lines.new.0 ≡ candidates_of (table_of s.args.names) (now s.args.keys)
+    take c.put-lines.result c.put-lines.new.0 ≡ candidates_of (table_of s.args.names) s.args.keys.now
 unfolding candidates_of chords_of
 stands c =
     let f = c.before.before.before.before.find.ensures in
@@ -33,7 +33,7 @@ returns c =
     let g = c.before.before in
     let put = g.before.before.before.before in
     let s = put.before.before.before.before.before.before.before.before in
-    subst (λ (t : List ℕ). Answered (text t) (now s.args.out) g.give.result g.give.new.1.0) (stands put) g.give.ensures
+    subst (λ (t : List ℕ). Answered (text t) s.args.out.now g.give.result g.give.new.1.0) (stands put) g.give.ensures
 
 pub candidates_in_spec : {M : Type 1} → statement M
 candidates_in_spec = tie.close (tie.spec

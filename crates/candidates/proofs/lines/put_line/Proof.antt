@@ -1,5 +1,5 @@
 -- `candidates::lines::put_line` meets its contract: a name, a suffix behind it, what stands behind that, and a line feed.
-use Rattle.answer.proofs.Kit.{refl, subst, [], ◌∷◌, ◌++◌, ℕ, ◌+◌, ◌≤◌, arith, length, now, rules}
+use Rattle.answer.proofs.Kit.{refl, subst, [], ◌∷◌, ◌++◌, ℕ, ◌+◌, ◌≤◌, arith, length, rules}
 use Rattle.answer.specs.Words.{low, packed, text_of}
 use Rattle.answer.specs.Written.{Writes}
 use Rattle.answer.proofs.Digits.{is_short, are_bytes}
@@ -14,13 +14,13 @@ use Rattle.candidates.proofs.lines.put_line.Statement.{statement}
 use Rattle.candidates.proofs.lines.put_line.Tie as tie
 
 -- behind the name
-named : (c : tie.After-put) → Writes (now c.before.before.before.args.out) 0 (text_of c.before.before.before.args.name) c.put.result c.put.new.0
+named : (c : tie.After-put) → Writes c.before.before.before.args.out.now 0 (text_of c.before.before.before.args.name) c.put.result c.put.new.0
 named c = put_word _ (omega (arith, c.before.before.before.requires.0)) _ _ _ _ (omega arith) c.put.ensures
 
 -- and behind the suffix
 ended : (c : tie.After-put-suffix)
     → let s = c.before.before.before.before.before.before.before.before in
-    Writes (now s.args.out) 0 (text_of s.args.name ++ suffix_of (seen_from s.args.class s.args.set)) c.put-suffix.result c.put-suffix.new.0
+    Writes s.args.out.now 0 (text_of s.args.name ++ suffix_of (seen_from s.args.class s.args.set)) c.put-suffix.result c.put-suffix.new.0
 ended c =
     let p = c.before.before.before.before.before in
     let s = p.before.before.before in

@@ -1,5 +1,5 @@
 -- `candidates::lines::put_lines` meets its contract. The loop's invariant: the lines of the classes before `i` are written.
-use Rattle.answer.proofs.Kit.{◌≡◌, refl, ap, ◌∙◌, true, List, [], map, flat_map, ℕ, ◌+◌, ◌-◌, ◌*◌, ◌<◌, ◌≤◌, arith, length, drop, drop-length, now, rules}
+use Rattle.answer.proofs.Kit.{◌≡◌, refl, ap, ◌∙◌, true, List, [], map, flat_map, ℕ, ◌+◌, ◌-◌, ◌*◌, ◌<◌, ◌≤◌, arith, length, drop, drop-length, rules}
 use borrow.Rule.Slice.PartMut.{put_mid}
 use Rattle.intervals.specs.Sets.{has}
 use Rattle.intervals.specs.declared.bass.Bass.TheVariants.{None, Class}
@@ -60,7 +60,7 @@ roomy c =
 wrote_first : (c : tie.After-put-line invariant-loop decreases-loop)
     → let w = c.before.before.before.before in
     let s = w.before.before.before.before.before in
-    Writes (now s.args.out) 0 (line (table_of s.args.names) (chord s.args.set None w.wide.result)) c.put-line.result c.put-line.new.0
+    Writes s.args.out.now 0 (line (table_of s.args.names) (chord s.args.set None w.wide.result)) c.put-line.result c.put-line.new.0
 unfolding text_of digits
 wrote_first c =
     let n = c.before.before.before in
@@ -129,7 +129,7 @@ loop-again c =
     let l = w.before.before.before in
     let root = l.before.before.before.before.before.before.before in
     let s = root.before.before.before.before.before in
-    let order = now s.args.order in
+    let order = s.args.order.now in
     let next = one_line (table_of s.args.names) s.args.set order (Class root.wide.result) l.loop.i w.wide2.result w.wide2.ensures (omega arith) in
     (so_far_next l.loop.invariant.0 _ _ next (wrote_next n), omega (arith, short_next n, l.loop.invariant.1), omega arith)
 
@@ -140,7 +140,7 @@ returns-2 c =
     let f = c.before.before.before.before in
     let root = f.before.before.before.before in
     let s = root.before.before.before.before.before in
-    let order = now s.args.order in
+    let order = s.args.order.now in
     let end : h.i ≡ length order = omega (arith, h.invariant.2) in
     let none : left s.args.names s.args.set root.wide.result order h.i ≡ [] = ap (left s.args.names s.args.set root.wide.result order) end ∙ ap (λ (l : List ℕ). lines (table_of s.args.names) (map (chord s.args.set (Class root.wide.result)) l)) (drop-length order) in
     same_text (all_lines (table_of s.args.names) s.args.set order root.wide.result root.wide.ensures (omega arith)) (also (wrote_first f) (so_far_all h.invariant.0 none).wrote)

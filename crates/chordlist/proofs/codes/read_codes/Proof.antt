@@ -1,5 +1,5 @@
 -- `chordlist::codes::read_codes` meets its contract. The loop's invariant: what has been read before the byte at `i`.
-use Rattle.answer.proofs.Kit.{◌≡◌, refl, ap, sym, subst, ◌∙◌, true, ⊎_elim, List, [], ◌∷◌, ℕ, ◌-◌, ◌<◌, ◌≤◌, arith, length, get_or, length-set, now, rules, not-true, not-false}
+use Rattle.answer.proofs.Kit.{◌≡◌, refl, ap, sym, subst, ◌∙◌, true, ⊎_elim, List, [], ◌∷◌, ℕ, ◌-◌, ◌<◌, ◌≤◌, arith, length, get_or, length-set, rules, not-true, not-false}
 use Rattle.chordlist.specs.Codes.{holds, codes_in}
 use Rattle.chordlist.proofs.Reading.{is_ended, Reading, start, value_less, is_digit_lem, has_place_lem, digit, next, no_space, no_code, place, read, cut}
 use Rattle.chordlist.proofs.codes.read_codes.Statement.{statement}
@@ -20,11 +20,11 @@ none (b ∷ more) e = absurd (let no_way : ⊥ = omega arith in no_way)
 -- a digit
 module _ (c : tie.Then2 invariant-loop decreases-loop) where
   facts : (c.before.before.before.loop.value < 1000) × (c.before.before.before.loop.digits < 3)
-      × (48 ≤ get_or (now c.before.before.before.before.before.before.before.args.line) c.before.before.before.loop.i 0)
-      × (get_or (now c.before.before.before.before.before.before.before.args.line) c.before.before.before.loop.i 0 ≤ 57)
+      × (48 ≤ get_or c.before.before.before.before.before.before.before.args.line.now c.before.before.before.loop.i 0)
+      × (get_or c.before.before.before.before.before.before.before.args.line.now c.before.before.before.loop.i 0 ≤ 57)
   facts =
       let h = c.before.before.before.loop in
-      let line = now c.before.before.before.before.before.before.before.args.line in
+      let line = c.before.before.before.before.before.before.before.args.line.now in
       let d = is_digit_lem line h.codes h.i h.value h.digits h.count (omega arith) h.invariant.1 c.if2.true in (
         value_less line h.codes h.i h.value h.digits h.count (omega arith) h.invariant.1,
         has_place_lem line h.codes h.i h.value h.digits h.count (omega arith) h.invariant.1 c.if2.true,
@@ -37,22 +37,22 @@ returns-2 : tie.Need-returns-2 invariant-loop decreases-loop
 returns-2 c =
     let e = c.before in
     let h = e.before.before.before.loop in
-    no_space (now e.before.before.before.before.before.before.before.args.line) h.codes h.i h.value h.digits h.count (omega arith) h.invariant.1 e.if2.false c.if3.true
+    no_space e.before.before.before.before.before.before.before.args.line.now h.codes h.i h.value h.digits h.count (omega arith) h.invariant.1 e.if2.false c.if3.true
 
 returns-3 : tie.Need-returns-3 invariant-loop decreases-loop
 returns-3 c =
     let e = c.before.before.before in
     let h = e.before.before.before.loop in
-    no_code (now e.before.before.before.before.before.before.before.args.line) h.codes h.i h.value h.digits h.count (omega arith) h.invariant.1 c.before.before.if3.false
+    no_code e.before.before.before.before.before.before.before.args.line.now h.codes h.i h.value h.digits h.count (omega arith) h.invariant.1 c.before.before.if3.false
     (sym c.before.is-ended.ensures ∙ not-true _ c.if4.true)
 
 -- behind the last byte
 module _ (c : tie.After-loop invariant-loop decreases-loop) where
   ended : (let h = c.before.loop in
-      Reading (now c.before.before.before.before.before.args.line) (length (now c.before.before.before.before.before.args.line)) h.value h.digits h.count h.codes)
+      Reading c.before.before.before.before.before.args.line.now (length c.before.before.before.before.before.args.line.now) h.value h.digits h.count h.codes)
   ended =
       let h = c.before.loop in
-      let line = now c.before.before.before.before.before.args.line in
+      let line = c.before.before.before.before.before.args.line.now in
       let end : h.i ≡ length line = omega arith in
       subst (λ (n : ℕ). Reading line n h.value h.digits h.count h.codes) end h.invariant.1
 
@@ -67,7 +67,7 @@ module _ (c : tie.Else5 invariant-loop decreases-loop) where
 loop-again : tie.Need-loop-preserved invariant-loop decreases-loop
 loop-again c =
     let h = c.before.before.before.loop in
-    let line = now c.before.before.before.before.before.before.before.args.line in
+    let line = c.before.before.before.before.before.before.before.args.line.now in
     ⊎_elim
     (λ w. (
       omega arith,

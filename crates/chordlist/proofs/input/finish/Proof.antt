@@ -1,5 +1,5 @@
 -- `chordlist::input::finish` meets its contract: a last line of no bytes is none.
-use Rattle.answer.proofs.Kit.{◌≡◌, refl, List, [], ◌∷◌, ℕ, arith, length, now, rules}
+use Rattle.answer.proofs.Kit.{◌≡◌, refl, List, [], ◌∷◌, ℕ, arith, length, rules}
 use Rattle.names.specs.Names.{flats}
 use Rattle.chordlist.specs.Replies.{line_text}
 use Rattle.chordlist.specs.private.Pieces.{said_at_end}
@@ -19,6 +19,6 @@ last_line (b ∷ more) other = refl
 
 pub finish_spec : {M : Type 1} → statement M
 finish_spec = tie.close (tie.spec
-    (λ c. rw (no_line_lem (now c.before.before.before.args.line) c.if1.true) (no_text (now c.before.before.before.args.out)))
+    (λ c. rw (no_line_lem c.before.before.before.args.line.now c.if1.true) (no_text c.before.before.before.args.out.now))
     (λ c κs. search rules) (λ c. search rules)
     (λ c. rw (last_line _ c.before.before.before.before.if1.false) c.before.before.reply.ensures))

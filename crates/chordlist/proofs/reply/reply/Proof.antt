@@ -1,5 +1,5 @@
 -- `chordlist::reply::reply` meets its contract: by the line's length, and by what it holds.
-use Rattle.answer.proofs.Kit.{◌≡◌, sym, subst, ⊎_elim, List, ℕ, ◌<◌, ◌≤◌, arith, length, take, length-take-le, now, rules, le-leb, lt-leb}
+use Rattle.answer.proofs.Kit.{◌≡◌, sym, subst, ⊎_elim, List, ℕ, ◌<◌, ◌≤◌, arith, length, take, length-take-le, rules, le-leb, lt-leb}
 use Rattle.names.specs.Names.{flats}
 use Rattle.chordlist.specs.Codes.{bad, holds, codes_in}
 use Rattle.chordlist.specs.private.Calls.{Reads}
@@ -27,10 +27,10 @@ abbrev read_of : tie.After-count → tie.After-read-codes
 read_of c = c.before.before.before
 
 good_read : (c : tie.After-count)
-    → (c.count.given.0.0 ≤ 512) × (codes_in (now (read_of c).before.before.before.before.before.args.line) ≡ holds (take c.count.given.0.0 (read_of c).read-codes.new.1.0))
+    → (c.count.given.0.0 ≤ 512) × (codes_in (read_of c).before.before.before.before.before.args.line.now ≡ holds (take c.count.given.0.0 (read_of c).read-codes.new.1.0))
 good_read c =
     let r = read_of c in
-    subst (λ (x : Codes). Reads (now r.before.before.before.before.before.args.line) x r.read-codes.last.1.0) c.count.given.1 r.read-codes.ensures
+    subst (λ (x : Codes). Reads r.before.before.before.before.before.args.line.now x r.read-codes.last.1.0) c.count.given.1 r.read-codes.ensures
 
 within : (c : tie.After-count) → c.count.given.0.0 ≤ length (read_of c).read-codes.new.1.0
 within c = omega (arith, (good_read c).0, (read_of c).read-codes.auto.1.0)
@@ -39,13 +39,13 @@ returns : tie.Need-returns
 returns c =
     let n = c.before.before.before.before.before.before in
     let r = read_of n in
-    let l = held (now r.before.before.before.before.before.args.line) r.before.before.if1.taken _ (good_read n).1 in
+    let l = held r.before.before.before.before.before.args.line.now r.before.before.if1.taken _ (good_read n).1 in
     rw l c.before.before.reply-codes.ensures
 
 -- a line that can't be read, or is too long
-unread : (c : tie.Joined1) → line_text flats (now c.before.before.before.args.line) ≡ bad_text
+unread : (c : tie.Joined1) → line_text flats c.before.before.before.args.line.now ≡ bad_text
 unread c =
-    let line = now c.before.before.before.args.line in
+    let line = c.before.before.before.args.line.now in
     ⊎_elim (λ w. spoiled line w.0.taken (subst (λ (x : Codes). Reads line x w.2.last.1.0) w.5.given.1 w.2.ensures)) (λ w. long line w.left) c.if1.branch
 
 returns-2 : tie.Need-returns-2

@@ -1,5 +1,5 @@
 -- `chordlist::reply::reply_codes` meets its contract: there is room for all candidates and the stop, so that none but a code above 127 is refused.
-use Rattle.answer.proofs.Kit.{◌≡◌, refl, sym, subst, ◌∙◌, List, [], ◌∷◌, ◌++◌, append_assoc, ℕ, ◌+◌, ◌≤◌, arith, length, drop, set, length-set, now, rules}
+use Rattle.answer.proofs.Kit.{◌≡◌, refl, sym, subst, ◌∙◌, List, [], ◌∷◌, ◌++◌, append_assoc, ℕ, ◌+◌, ◌≤◌, arith, length, drop, set, length-set, rules}
 use Rattle.answer.specs.Words.{bytes}
 use Rattle.answer.specs.Replies.{Reply, refuse, text, output_of, room_after, Answered, AtMost}
 use Rattle.answer.specs.declared.output.Output.{Output}
@@ -48,10 +48,10 @@ stopped reply room left n h s =
 -- the call
 module _ (c : tie.After-candidates-strict) where
   abbrev room : List ℕ
-  room = now c.before.before.before.before.args.out
+  room = c.before.before.before.before.args.out.now
 
   abbrev reply : Reply
-  reply = strict_reply flats (now c.before.before.before.before.args.codes)
+  reply = strict_reply flats c.before.before.before.before.args.codes.now
 
   came_to : (r : Output) → c.candidates-strict.result ≡ r → Came reply room r c.candidates-strict.new.1.0
   came_to r e =

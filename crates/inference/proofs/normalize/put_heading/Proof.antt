@@ -1,5 +1,5 @@
 -- `inference::normalize::put_heading` meets its contract: four words in a row.
-use Rattle.answer.proofs.Kit.{ap, ◌∙◌, cond, not, [], arith, eqb, length-append, now, rules}
+use Rattle.answer.proofs.Kit.{ap, ◌∙◌, cond, not, [], arith, eqb, length-append, rules}
 use Rattle.answer.specs.Words.{bytes}
 use Rattle.answer.proofs.Writing.{no_puts, then_put}
 use Rattle.rules.specs.Heading.{wording, modified}
@@ -21,7 +21,7 @@ returns c =
     let row = kind.kind-of.ensures in
     let room = simp length-append at s.requires in
     let quality =
-    then_put (no_puts (now a.buffer) a.at) (wording d.quality) (wording_short d.quality) _ _ _ (ap (λ (k : Kind). k.0) row) (omega arith)
+    then_put (no_puts a.buffer.now a.at) (wording d.quality) (wording_short d.quality) _ _ _ (ap (λ (k : Kind). k.0) row) (omega arith)
     first.put.ensures first.put.auto.0 in
     let is-nine = nine_word (not (eqb d.nine 0)) in
     let nine =

@@ -1,5 +1,5 @@
 -- `inference::normalize::put_parentheses` meets its contract: four lists of parts in a row, and what closes them.
-use Rattle.answer.proofs.Kit.{◌≡◌, sym, ap, ap₂, subst, ◌∙◌, List, [], ◌++◌, append-nil, append_assoc, ℕ, ◌+◌, ◌≤◌, le_refl, bit_xor, xor_lt, length, now, rules}
+use Rattle.answer.proofs.Kit.{◌≡◌, sym, ap, ap₂, subst, ◌∙◌, List, [], ◌++◌, append-nil, append_assoc, ℕ, ◌+◌, ◌≤◌, le_refl, bit_xor, xor_lt, length, rules}
 use Rattle.answer.specs.Words.{bytes}
 use Rattle.answer.specs.Written.{Writes}
 use Rattle.rules.specs.Classes.{intervals_in}
@@ -42,12 +42,12 @@ four_lists c =
 
 -- what is written behind each call
 abbrev After : tie.After-add-where2 → List (List ℕ) → ℕ → List ℕ → Type 0
-After c P r l = Listing (now (entered c).args.buffer) (entered c).args.start P r l
+After c P r l = Listing (entered c).args.buffer.now (entered c).args.start P r l
 
 one : (c : tie.After-put-parts) → let b = c.before.before in After b (altered b) c.put-parts.result c.put-parts.new.0
 one c =
     let b = c.before.before in
-    then_parts (no_parts (now (entered b).args.buffer) (entered b).args.start) (altered b) c.put-parts.ensures c.put-parts.auto.0
+    then_parts (no_parts (entered b).args.buffer.now (entered b).args.start) (altered b) c.put-parts.ensures c.put-parts.auto.0
 
 abbrev before_two : tie.After-put-parts2 → tie.After-put-parts
 before_two c = c.before.before.before.before
@@ -68,7 +68,7 @@ first_room c κs =
     let b = c.before in (
       (entered b).requires.0.alterations,
       le_refl _,
-      fits (no_parts (now (entered b).args.buffer) (entered b).args.start) (altered b) (added b ++ lastly b ++ omitted b) _
+      fits (no_parts (entered b).args.buffer.now (entered b).args.start) (altered b) (added b ++ lastly b ++ omitted b) _
           (simp append_assoc (simp append_assoc at (four_lists b))) (entered b).requires.1,
     )
 
@@ -108,9 +108,9 @@ returns c =
     let a = (entered b).args in
     let told = four_lists b in
     let four = then_parts (three q) (omitted b) p.put-parts4.ensures p.put-parts4.auto.0 in
-    subst (λ (x : List (List ℕ)). Writes (now a.buffer) a.start (parenthesized x) put.put.result put.put.new.0) told
+    subst (λ (x : List (List ℕ)). Writes a.buffer.now a.start (parenthesized x) put.put.result put.put.new.0) told
     (closed four _ _ _ put.before.either.ensures
-    (subst (λ (x : List (List ℕ)). a.start + length (parenthesized x) + 8 ≤ length (now a.buffer)) (sym told) (entered b).pre.1) put.put.ensures)
+    (subst (λ (x : List (List ℕ)). a.start + length (parenthesized x) + 8 ≤ length a.buffer.now) (sym told) (entered b).pre.1) put.put.ensures)
 
 pub put_parentheses_spec : {M : Type 1} → statement M
 put_parentheses_spec = tie.close (tie.spec

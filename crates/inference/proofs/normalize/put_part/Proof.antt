@@ -1,5 +1,5 @@
 -- `inference::normalize::put_part` meets its contract: three words in a row.
-use Rattle.answer.proofs.Kit.{ap, ◌∙◌, cond, arith, eqb, length-append, now, rules}
+use Rattle.answer.proofs.Kit.{ap, ◌∙◌, cond, arith, eqb, length-append, rules}
 use Rattle.answer.specs.Words.{bytes, packed}
 use Rattle.intervals.specs.Intervals.{numbered}
 use Rattle.intervals.specs.declared.interval.MaybeInterval.{MaybeInterval}
@@ -20,7 +20,7 @@ returns c =
     let room = simp length-append at s.requires in
     let is-opening = opening_word (eqb a.at a.start) in
     let opened =
-    then_put (no_puts (now a.buffer) a.at) (cond (eqb a.at a.start) (bytes "(") (bytes ",")) is-opening.short
+    then_put (no_puts a.buffer.now a.at) (cond (eqb a.at a.start) (bytes "(") (bytes ",")) is-opening.short
     _ _ _ (first.before.either.ensures ∙ is-opening.is) (omega arith) first.put.ensures first.put.auto.0 in
     let worded =
     then_put opened (prefix_text a.prefix) (prefix_short a.prefix) _ _ _ second.before.prefix-word.ensures (omega arith)

@@ -1,5 +1,5 @@
 -- `inference::normalize::suffix` meets its contract: the tests say what the call has to give, and `give` gives it.
-use Rattle.answer.proofs.Kit.{◌≡◌, sym, ap, subst, ◌∙◌, true, ℕ, arith, replicate, now, rules}
+use Rattle.answer.proofs.Kit.{◌≡◌, sym, ap, subst, ◌∙◌, true, ℕ, arith, replicate, rules}
 use Rattle.answer.specs.Written.{Writes}
 use Rattle.answer.specs.Replies.{Reply, text, Answered}
 use Rattle.answer.proofs.Rooms.{refused_by}
@@ -30,7 +30,7 @@ returns-2 c =
     let put = given.before.before.before.before in
     let e = put.before.before in
     let told = ap text (stands put).added ∙ sym (rooted (set e) (is e)) in
-    subst (λ (x : Reply). Answered x (now e.before.before.before.args.out) given.give.result given.give.new.1.0) told given.give.ensures
+    subst (λ (x : Reply). Answered x e.before.before.before.args.out.now given.give.result given.give.new.1.0) told given.give.ensures
 
 pub suffix_spec : {M : Type 1} → statement M
 suffix_spec = tie.close (tie.spec

@@ -1,5 +1,5 @@
 -- `leads::lead::nearest_lead` meets its contract: the lead of the ordered pool, and what it leaves.
-use Rattle.answer.proofs.Kit.{◌≡◌, sym, ap, ap₂, subst, ◌∙◌, List, ℕ, take, now, rules}
+use Rattle.answer.proofs.Kit.{◌≡◌, sym, ap, ap₂, subst, ◌∙◌, List, ℕ, take, rules}
 use Rattle.pool.specs.declared.pool.Tone.{Tone}
 use Rattle.pool.specs.declared.pool.Pool.{Pool}
 use Rattle.pool.specs.Pool.{tones_of}
@@ -25,7 +25,7 @@ module _ (l : List Tone) (pool : Pool) (e : pool ≡ pool_of (sorted (take 16 l)
       ∙ ap₂ (λ (x : ℕ) (t : List Tone). record { key = x; left = laid_over (without_last lowest limit x t) (pool_of (sorted (take 16 l))).tones }) (k ∙ ap (lead_of lowest limit wanted) tones) tones
 
 abbrev pairs : tie.After-ordered-pool → List Tone
-pairs c = tones_of (now c.before.before.before.args.classes) (now c.before.before.before.args.intervals)
+pairs c = tones_of c.before.before.before.args.classes.now c.before.before.before.args.intervals.now
 
 pub nearest_lead_spec : {M : Type 1} → statement M
 nearest_lead_spec = tie.close (tie.spec

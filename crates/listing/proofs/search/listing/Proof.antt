@@ -1,5 +1,5 @@
 -- `listing::search::listing` meets its contract: what was found stands at the front of the buffer, and that is given.
-use Rattle.answer.proofs.Kit.{ap, sym, ◌∙◌, List, [], arith, now, rules}
+use Rattle.answer.proofs.Kit.{ap, sym, ◌∙◌, List, [], arith, rules}
 use Rattle.answer.specs.Replies.{text, output_of, room_after}
 use Rattle.answer.proofs.Rooms.{written}
 use Rattle.answer.proofs.Writing.{counted, within}
@@ -9,8 +9,8 @@ use Rattle.listing.proofs.search.listing.Tie as tie
 
 returns : tie.Need-returns
 returns c =
-    let out = now c.before.before.before.args.out in
-    let none = long_listing (now c.before.before.before.args.name) (omega arith) in
+    let out = c.before.before.before.args.out.now in
+    let none = long_listing c.before.before.before.args.name.now (omega arith) in
     let w = written [] out (omega arith) in
     (w.0 ∙ ap (λ (l : List _). output_of (text l) out) (sym none), w.1 ∙ ap (λ (l : List _). room_after (text l) out) (sym none))
 

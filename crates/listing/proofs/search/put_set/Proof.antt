@@ -1,5 +1,5 @@
 -- `listing::search::put_set` meets its contract.
-use Rattle.answer.proofs.Kit.{arith, length-set, now, rules}
+use Rattle.answer.proofs.Kit.{arith, length-set, rules}
 use Rattle.listing.proofs.Found.{puts_set}
 use Rattle.listing.proofs.search.put_set.Statement.{statement}
 use Rattle.listing.proofs.search.put_set.Tie as tie
@@ -9,4 +9,4 @@ put_set_spec = tie.close (tie.spec
     (λ c. search rules) (λ c. search rules) (λ c. search rules) (λ c. search rules)
     (λ c. rw length-set (omega arith))
     (λ c. search rules) (λ c. search rules)
-    (λ c. puts_set (now c.args.found) c.args.at _ _ (omega arith)))
+    (λ c. puts_set c.args.found.now c.args.at _ _ (omega arith)))

@@ -1,5 +1,5 @@
 -- `listing::search::search` meets its contract. The loop's invariant: of the listing, what the sets from the one at `i` on give is left.
-use Rattle.answer.proofs.Kit.{◌≡◌, ap, sym, subst, subst₂, ◌∙◌, List, ⊎_elim, ℕ, ◌+◌, ◌-◌, ◌≤◌, arith, now}
+use Rattle.answer.proofs.Kit.{◌≡◌, ap, sym, subst, subst₂, ◌∙◌, List, ⊎_elim, ℕ, ◌+◌, ◌-◌, ◌≤◌, arith}
 use Rattle.answer.proofs.Writing.{SoFar, so_far_none, so_far_next, so_far_all}
 use Rattle.intervals.proofs.Rooted.{is_rooted_lem}
 use Rattle.suffixes.specs.Sets.{matching, sets_of}
@@ -21,8 +21,8 @@ loop-holds c = (so_far_none _ _ _, omega arith)
 loop-again : tie.Need-loop-preserved invariant-loop decreases-loop
 loop-again c =
     let h = c.before.before.before.loop in
-    let t = now c.before.before.before.before.before.before.args.name in
-    let l₀ = now c.before.before.before.before.before.before.args.found in
+    let t = c.before.before.before.before.before.before.args.name.now in
+    let l₀ = c.before.before.before.before.before.before.args.found.now in
     let is = c.before.is-suffix.ensures in
     ⊎_elim
     (λ w. (
@@ -40,7 +40,7 @@ returns : tie.Need-returns invariant-loop decreases-loop
 unfolding matching in_bytes
 returns c =
     let h = c.before.loop in
-    let t = now c.before.before.before.before.args.name in
+    let t = c.before.before.before.before.args.name.now in
     let end : h.i ≡ 2048 = omega (arith, h.invariant.1) in
     (so_far_all h.invariant.0 (ap (left_of t) end)).wrote
 

@@ -1,5 +1,5 @@
 -- `musicxml::degrees::put_degree` meets its contract: six texts in a row.
-use Rattle.answer.proofs.Kit.{List, ◌++◌, ℕ, ◌+◌, ◌≤◌, arith, length, length-append, now, rules}
+use Rattle.answer.proofs.Kit.{List, ◌++◌, ℕ, ◌+◌, ◌≤◌, arith, length, length-append, rules}
 use Rattle.answer.specs.Words.{text_of}
 use Rattle.answer.proofs.Writing.{Puts, no_puts}
 use Rattle.musicxml.specs.declared.texts.Part.TheVariants.{DegreeValue, DegreeAlter, DegreeType}
@@ -11,7 +11,7 @@ use Rattle.musicxml.proofs.degrees.put_degree.Tie as tie
 
 module _ (s : tie.Start) where
   abbrev l : List ℕ
-  l = now s.args.buffer
+  l = s.args.buffer.now
 
   abbrev at : ℕ
   at = s.args.at

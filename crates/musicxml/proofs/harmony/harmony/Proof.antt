@@ -1,5 +1,5 @@
 -- `musicxml::harmony::harmony` meets its contract: the tests say what the call has to give, and `give` gives it.
-use Rattle.answer.proofs.Kit.{◌≡◌, sym, ap, subst, ◌∙◌, Bool, true, ◌&&◌, ◌<◌, arith, leb, leb→le, now, rules}
+use Rattle.answer.proofs.Kit.{◌≡◌, sym, ap, subst, ◌∙◌, Bool, true, ◌&&◌, ◌<◌, arith, leb, leb→le, rules}
 use Rattle.answer.specs.Replies.{Reply, text, Answered}
 use Rattle.answer.proofs.Rooms.{refused_by}
 use Rattle.answer.proofs.Tests.{left, right, said, is_true, refused, admitted}
@@ -46,7 +46,7 @@ returns-2 c =
     let e = put.before.before in
     let a = (start e).args in
     let reply = ap text put.put-harmony.ensures.added ∙ sym (element a.root a.bass a.set (told e.before).0 (good e)) in
-    subst (λ (x : Reply). Answered x (now a.out) given.give.result given.give.new.1.0) reply given.give.ensures
+    subst (λ (x : Reply). Answered x a.out.now given.give.result given.give.new.1.0) reply given.give.ensures
 
 pub harmony_spec : {M : Type 1} → statement M
 harmony_spec = tie.close (tie.spec

@@ -1,5 +1,5 @@
 -- `musicxml::harmony::put_harmony` meets its contract: eight texts in a row.
-use Rattle.answer.proofs.Kit.{◌≡◌, sym, ap, subst, ◌∙◌, List, ◌++◌, map, ℕ, ◌+◌, ◌≤◌, arith, mod-eq_of_lt, bit_and, length, length-append, now, rules}
+use Rattle.answer.proofs.Kit.{◌≡◌, sym, ap, subst, ◌∙◌, List, ◌++◌, map, ℕ, ◌+◌, ◌≤◌, arith, mod-eq_of_lt, bit_and, length, length-append, rules}
 use Rattle.answer.proofs.Writing.{Puts, no_puts, same_text}
 use Rattle.intervals.specs.Intervals.{set_of}
 use Rattle.intervals.specs.declared.bass.Bass.{Bass}
@@ -29,7 +29,7 @@ module _ (c : tie.After-intervals) where
   s = c.before.before.before.before
 
   abbrev l : List ℕ
-  l = now s.args.buffer
+  l = s.args.buffer.now
 
   abbrev row : Kind
   row = c.before.before.kind_row.result

@@ -1,5 +1,5 @@
 -- `musicxml::harmony::put_pitch` meets its contract: five texts in a row.
-use Rattle.answer.proofs.Kit.{◌≡◌, ap, subst, ◌∙◌, List, ◌++◌, ℕ, ◌+◌, ◌%◌, ◌≤◌, arith, length, length-append, take, now, rules}
+use Rattle.answer.proofs.Kit.{◌≡◌, ap, subst, ◌∙◌, List, ◌++◌, ℕ, ◌+◌, ◌%◌, ◌≤◌, arith, length, length-append, take, rules}
 use Rattle.answer.specs.Words.{long, text_of}
 use Rattle.answer.proofs.Writing.{Puts, no_puts, same_text}
 use Rattle.names.specs.Names.{flats, name_of}
@@ -15,7 +15,7 @@ module _ (c : tie.After-class-name) where
   s = c.before.before
 
   abbrev l : List ℕ
-  l = now s.args.buffer
+  l = s.args.buffer.now
 
   abbrev at : ℕ
   at = s.args.at

@@ -1,5 +1,5 @@
 -- `musicxml::texts::put_text` meets its contract: five words in a row.
-use Rattle.answer.proofs.Kit.{◌&&◌, arith, leb→le, length-append, now, rules}
+use Rattle.answer.proofs.Kit.{◌&&◌, arith, leb→le, length-append, rules}
 use Rattle.answer.proofs.Tests.{left, right, said}
 use Rattle.answer.proofs.Writing.{no_puts}
 use Rattle.musicxml.specs.private.Texts.{words_text, is_word, are_words}
@@ -23,7 +23,7 @@ returns c =
     let four = left (is_word t.0 && is_word t.1 && is_word t.2 && is_word t.3) (is_word t.4) five in
     let three = left (is_word t.0 && is_word t.1 && is_word t.2) (is_word t.3) four in
     let two = left (is_word t.0 && is_word t.1) (is_word t.2) three in
-    let p1 = then_word (no_puts (now a.buffer) a.at) t.0 (leb→le _ _ (left (is_word t.0) (is_word t.1) two)) _ _ (omega arith) first.put.ensures first.put.auto.0 in
+    let p1 = then_word (no_puts a.buffer.now a.at) t.0 (leb→le _ _ (left (is_word t.0) (is_word t.1) two)) _ _ (omega arith) first.put.ensures first.put.auto.0 in
     let p2 = then_word p1 t.1 (leb→le _ _ (right (is_word t.0) (is_word t.1) two)) _ _ (omega arith) second.put2.ensures second.put2.auto.0 in
     let p3 =
     then_word p2 t.2 (leb→le _ _ (right (is_word t.0 && is_word t.1) (is_word t.2) three)) _ _ (simp length-append (omega arith)) third.put3.ensures

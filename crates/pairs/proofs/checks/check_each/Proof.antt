@@ -1,5 +1,5 @@
 -- `pairs::checks::check_each` meets its contract. The loop's invariant: the first bad one of the pairs that are left is the first of all.
-use Rattle.answer.proofs.Kit.{◌≡◌, sym, ap, ap₂, ◌∙◌, true, false, List, ◌∷◌, ℕ, ◌+◌, ◌-◌, ◌≤◌, ◌<◌, arith, length, take, get_or, slice, now, lt-leb, le-leb}
+use Rattle.answer.proofs.Kit.{◌≡◌, sym, ap, ap₂, ◌∙◌, true, false, List, ◌∷◌, ℕ, ◌+◌, ◌-◌, ◌≤◌, ◌<◌, arith, length, take, get_or, slice, lt-leb, le-leb}
 use Rattle.answer.proofs.FirstRefused.{refused_from, here, onward, from_0, at_end}
 use Rattle.answer.specs.declared.refusal.Checked.{Checked}
 use Rattle.answer.specs.declared.refusal.Checked.TheVariants.{Refused}
@@ -49,20 +49,20 @@ returns : tie.Need-returns invariant-loop decreases-loop
 returns c =
     let l = c.before.before.before in
     let s = l.before in
-    sym (bad_class (now s.args.classes) (now s.args.intervals) l.loop.i s.args.count (omega arith) s.requires.0 s.requires.1 c.if1.true) ∙ l.loop.invariant.1
+    sym (bad_class s.args.classes.now s.args.intervals.now l.loop.i s.args.count (omega arith) s.requires.0 s.requires.1 c.if1.true) ∙ l.loop.invariant.1
 
 returns-2 : tie.Need-returns-2 invariant-loop decreases-loop
 returns-2 c =
     let l = c.before.before.before.before.before in
     let s = l.before in
-    sym (bad_interval (now s.args.classes) (now s.args.intervals) l.loop.i s.args.count (omega arith) s.requires.0 s.requires.1 c.before.before.if1.false c.if2.true) ∙ l.loop.invariant.1
+    sym (bad_interval s.args.classes.now s.args.intervals.now l.loop.i s.args.count (omega arith) s.requires.0 s.requires.1 c.before.before.if1.false c.if2.true) ∙ l.loop.invariant.1
 
 loop-again : tie.Need-loop-preserved invariant-loop decreases-loop
 loop-again c =
     let l = c.before.before.before.before.before in
     let s = l.before in (
       omega arith,
-      sym (goes_on (now s.args.classes) (now s.args.intervals) l.loop.i s.args.count (omega arith) s.requires.0 s.requires.1
+      sym (goes_on s.args.classes.now s.args.intervals.now l.loop.i s.args.count (omega arith) s.requires.0 s.requires.1
           (rw (le-leb _ _ c.before.before.if1.false, le-leb _ _ c.if2.false)))
           ∙ l.loop.invariant.1,
     )
@@ -73,8 +73,8 @@ returns-3 c =
     let l = c.before.loop in
     let s = c.before.before in
     sym (at_end is_bad bad_pair l.i)
-    ∙ ap (λ (x : List ℕ). refused_from is_bad bad_pair l.i (tones_of x (slice l.i s.args.count (now s.args.intervals))))
-    (sym (none (now s.args.classes) l.i s.args.count l.invariant.0 c.loop-test.false))
+    ∙ ap (λ (x : List ℕ). refused_from is_bad bad_pair l.i (tones_of x (slice l.i s.args.count s.args.intervals.now)))
+    (sym (none s.args.classes.now l.i s.args.count l.invariant.0 c.loop-test.false))
     ∙ l.invariant.1
 
 pub check_each_spec : {M : Type 1} → statement M

@@ -1,5 +1,5 @@
 -- `pairs::checks::check_pairs` meets its contract: by the count of the pairs, then by each of them.
-use Rattle.answer.proofs.Kit.{◌≡◌, ap, subst, ◌∙◌, List, ℕ, ◌≤◌, ◌<◌, length, take, now, lt-leb, le-leb, rules}
+use Rattle.answer.proofs.Kit.{◌≡◌, ap, subst, ◌∙◌, List, ℕ, ◌≤◌, ◌<◌, length, take, lt-leb, le-leb, rules}
 use Rattle.pool.specs.Pool.{tones_of}
 use Rattle.pairs.specs.Checks.{first_checked, pairs_checked}
 use Rattle.pool.proofs.Pairs.{few_classes, few_intervals, first_used}
@@ -12,10 +12,10 @@ module _ (c : tie.Else1) where
   count = c.before.used.result
 
   abbrev classes : List ℕ
-  classes = now c.before.before.before.before.args.classes
+  classes = c.before.before.before.before.args.classes.now
 
   abbrev intervals : List ℕ
-  intervals = now c.before.before.before.before.args.intervals
+  intervals = c.before.before.before.before.args.intervals.now
 
   in_classes : count ≤ length classes
   in_classes = rw c.before.used.ensures (few_classes classes intervals)

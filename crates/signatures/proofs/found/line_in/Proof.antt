@@ -1,5 +1,5 @@
 -- `signatures::found::line_in` meets its contract. The loop's invariant: what is found from the byte at `i` on is what is found in the whole.
-use Rattle.answer.proofs.Kit.{◌≡◌, sym, ap, ◌∙◌, List, ◌∷◌, ⊎_elim, ℕ, suc, ◌+◌, ◌-◌, ◌≤◌, ◌<◌, add-one, arith, length, drop, get_or, drop-cons, drop-length, now, eq-eqb, ne_eqb}
+use Rattle.answer.proofs.Kit.{◌≡◌, sym, ap, ◌∙◌, List, ◌∷◌, ⊎_elim, ℕ, suc, ◌+◌, ◌-◌, ◌≤◌, ◌<◌, add-one, arith, length, drop, get_or, drop-cons, drop-length, eq-eqb, ne_eqb}
 use Rattle.answer.specs.Lines.{line_feed}
 use Rattle.signatures.specs.declared.found.Found.TheVariants.{At}
 use Rattle.signatures.specs.Part.{found_in}
@@ -30,14 +30,14 @@ module _ (text : List ℕ) (start i : ℕ) (h : i < length text) where
 returns : tie.Need-returns invariant-loop decreases-loop
 returns c =
     let l = c.before.before.before.before in
-    let text = now l.before.args.text in
+    let text = l.before.args.text.now in
     let none : l.loop.left ≡ 0 = omega arith in
     sym (stops text l.loop.start l.loop.i (omega arith) c.before.if1.true) ∙ ap (found_from l.loop.start l.loop.i (drop l.loop.i text)) (sym none) ∙ l.loop.invariant.2
 
 loop-again : tie.Need-loop-preserved invariant-loop decreases-loop
 loop-again c =
     let l = c.before.before.before in
-    let text = now l.before.args.text in
+    let text = l.before.args.text.now in
     ⊎_elim
     (λ w.
     let some : suc (l.loop.left - 1) ≡ l.loop.left = omega (arith, w.1.left) in (
@@ -56,7 +56,7 @@ loop-again c =
 returns-2 : tie.Need-returns-2 invariant-loop decreases-loop
 returns-2 c =
     let l = c.before in
-    let text = now l.before.args.text in
+    let text = l.before.args.text.now in
     let end : l.loop.i ≡ length text = omega arith in
     sym (at_end l.loop.start l.loop.i l.loop.left) ∙ ap (λ (t : List ℕ). found_from l.loop.start l.loop.i t l.loop.left) (sym (ap (λ (n : ℕ). drop n text) end ∙ drop-length text)) ∙ l.loop.invariant.2
 

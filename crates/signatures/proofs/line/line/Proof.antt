@@ -1,6 +1,6 @@
 -- `signatures::line::line` meets its contract: the part lies in the listing that it is taken of.
 use denote.Ref.{Bor}
-use Rattle.answer.proofs.Kit.{◌≡◌, refl, ap, ap₂, subst, ◌∙◌, List, ℕ, ◌+◌, ◌-◌, ◌≤◌, ◌<◌, ◌^◌, add_comm, arith, length, take, drop, RefT, now, rules}
+use Rattle.answer.proofs.Kit.{◌≡◌, refl, ap, ap₂, subst, ◌∙◌, List, ℕ, ◌+◌, ◌-◌, ◌≤◌, ◌<◌, ◌^◌, add_comm, arith, length, take, drop, Bor, rules}
 use mir.Facts.{to_z-of_z}
 use Rattle.names.specs.declared.table.Names.{Names}
 use Rattle.names.specs.declared.table.Names.TheVariants.{Flats, Sharps}
@@ -16,7 +16,7 @@ either_less n Sharps flat sharp f s = s
 
 -- a listing, chosen by its names, and a part of it
 module _ (part told : Part) (is : part ≡ told) (flat sharp listing : Bor (List ℕ)) (chosen : listing ≡ listing_in part.names flat sharp) where
-  reaches : IsWithin (now flat) (now sharp) part → part.start + part.length ≤ length (now listing)
+  reaches : IsWithin flat.now sharp.now part → part.start + part.length ≤ length listing.now
   reaches h = rw (chosen, its_bytes part.names flat sharp) h
 
   taken : (r : Bor (List ℕ)) → r.ref_ptr ≡ (listing.ptr.0, part.start + listing.ptr.1)
@@ -31,17 +31,17 @@ module _ (part told : Part) (is : part ≡ told) (flat sharp listing : Bor (List
 
 -- what was called for, as the contract has it
 called : (c : tie.After-line-part)
-    → let s = c.before.before.before in c.line-part.result ≡ part_of (now s.args.flat) (now s.args.sharp) s.args.number s.args.fifths
+    → let s = c.before.before.before in c.line-part.result ≡ part_of s.args.flat.now s.args.sharp.now s.args.number s.args.fifths
 called c = let s = c.before.before.before in rw (to_z-of_z s.ranges.fifths) at c.line-part.ensures
 
-within : (c : tie.After-line-part) → let s = c.before.before.before in IsWithin (now s.args.flat) (now s.args.sharp) c.line-part.result
-within c = let s = c.before.before.before in rw (called c) (part_within (now s.args.flat) (now s.args.sharp) s.args.number s.args.fifths)
+within : (c : tie.After-line-part) → let s = c.before.before.before in IsWithin s.args.flat.now s.args.sharp.now c.line-part.result
+within c = let s = c.before.before.before in rw (called c) (part_within s.args.flat.now s.args.sharp.now s.args.number s.args.fifths)
 
 add_end : tie.Need-overflow-add-end
 add_end c =
     let p = c.before in
     let s = p.before.before.before in
-    record { fits = omega (arith, within p, either_less (2 ^ 64) p.line-part.result.names (now s.args.flat) (now s.args.sharp) s.well-formed.0.0 s.well-formed.1.0.0) }
+    record { fits = omega (arith, within p, either_less (2 ^ 64) p.line-part.result.names s.args.flat.now s.args.sharp.now s.well-formed.0.0 s.well-formed.1.0.0) }
 
 pub line_spec : {M : Type 1} → statement M
 line_spec = tie.close (tie.spec

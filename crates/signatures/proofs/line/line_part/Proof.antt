@@ -1,6 +1,6 @@
 -- `signatures::line::line_part` meets its contract: by the names that the key calls for.
 use denote.Ref.{Bor}
-use Rattle.answer.proofs.Kit.{◌≡◌, sym, ap, ◌∙◌, List, ℕ, ℤ, length, RefT, now, rules}
+use Rattle.answer.proofs.Kit.{◌≡◌, sym, ap, ◌∙◌, List, ℕ, ℤ, length, Bor, rules}
 use mir.Facts.{to_z-of_z}
 use Rattle.names.specs.declared.table.Names.{Names}
 use Rattle.signatures.specs.declared.found.Found.{Found}
@@ -14,14 +14,14 @@ use Rattle.signatures.proofs.line.line_part.Tie as tie
 
 -- of a key that calls for some names, the line in the listing that has them
 module _ (flat sharp : Bor (List ℕ)) (number : ℕ) (fifths : ℤ) where
-  in_key : (called : Called) → names_in fifths ≡ called → part_for called (now flat) (now sharp) number ≡ part_of (now flat) (now sharp) number fifths
+  in_key : (called : Called) → names_in fifths ≡ called → part_for called flat.now sharp.now number ≡ part_of flat.now sharp.now number fifths
   unfolding part_of
-  in_key called e = ap (λ (x : Called). part_for x (now flat) (now sharp) number) (sym e)
+  in_key called e = ap (λ (x : Called). part_for x flat.now sharp.now number) (sym e)
 
-  in_names : (names : Names) (listing : Bor (List ℕ)) (found : Found) → names_in fifths ≡ For names → listing ≡ listing_in names flat sharp → found ≡ found_in (now listing) number
-      → part_at names (length (now flat)) found ≡ part_of (now flat) (now sharp) number fifths
+  in_names : (names : Names) (listing : Bor (List ℕ)) (found : Found) → names_in fifths ≡ For names → listing ≡ listing_in names flat sharp → found ≡ found_in listing.now number
+      → part_at names (length flat.now) found ≡ part_of flat.now sharp.now number fifths
   in_names names listing found called is at =
-      ap (part_at names (length (now flat))) (at ∙ ap (λ (t : List ℕ). found_in t number) (ap now is ∙ its_bytes names flat sharp)) ∙ in_key (For names) called
+      ap (part_at names (length flat.now)) (at ∙ ap (λ (t : List ℕ). found_in t number) (ap is.now ∙ its_bytes names flat sharp)) ∙ in_key (For names) called
 
 returns : tie.Need-returns
 returns c =

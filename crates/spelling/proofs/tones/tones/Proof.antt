@@ -1,5 +1,5 @@
 -- `spelling::tones::tones` meets its contract: the set, then the note of the root class, say what the call has to give.
-use Rattle.answer.proofs.Kit.{◌≡◌, sym, subst, ◌∙◌, true, now, rules}
+use Rattle.answer.proofs.Kit.{◌≡◌, sym, subst, ◌∙◌, true, rules}
 use Rattle.answer.specs.Replies.{Reply, Answered}
 use Rattle.answer.proofs.Rooms.{refused_by}
 use Rattle.answer.proofs.Tests.{refused, admitted}
@@ -33,7 +33,7 @@ returns-2 c =
     let n = t.before.before.before in
     let e = n.before.before.before in
     let s = e.before.before.before in
-    subst (λ (x : Reply). Answered x (now s.args.out) t.tones-on.result t.tones-on.new.1.1.0)
+    subst (λ (x : Reply). Answered x s.args.out.now t.tones-on.result t.tones-on.new.1.1.0)
     (sym (by_the_note spelled_by s.args.root s.args.set (is_rooted_lem e) _ (root_is n))) t.tones-on.ensures
 
 returns-3 : tie.Need-returns-3

@@ -1,5 +1,5 @@
 -- `spelling::tones::tones_on` meets its contract: a row of the set's tones, of which all but the first space is given.
-use Rattle.answer.proofs.Kit.{◌≡◌, sym, ap, subst, ◌∙◌, List, ℕ, ◌≤◌, zero-add, mod-eq_of_lt, arith, length, take, now, rules}
+use Rattle.answer.proofs.Kit.{◌≡◌, sym, ap, subst, ◌∙◌, List, ℕ, ◌≤◌, zero-add, mod-eq_of_lt, arith, length, take, rules}
 use Rattle.answer.specs.Replies.{text, Answered}
 use Rattle.intervals.specs.Intervals.{set_of}
 use Rattle.intervals.specs.declared.interval.Interval.{Interval}
@@ -51,7 +51,7 @@ returns c =
     let put = g.before.before.before.before.before in
     let s = put.before.before.before.before in
     let row = given spelled_by s.args.root (intervals_of s.args.set) put.put-tones.new.0 put.put-tones.result (at_least_one s.args.set s.requires.1) (stands put) in
-    subst (λ (t : List ℕ). Answered (text t) (now s.args.out) g.give.result g.give.new.1.0) row g.give.ensures
+    subst (λ (t : List ℕ). Answered (text t) s.args.out.now g.give.result g.give.new.1.0) row g.give.ensures
 
 pub tones_on_spec : {M : Type 1} → statement M
 tones_on_spec = tie.close (tie.spec

@@ -1,5 +1,5 @@
 -- `strict::entry::candidates_strict_in` meets its contract: by what the check says.
-use Rattle.answer.proofs.Kit.{sym, subst, ◌∙◌, now, rules}
+use Rattle.answer.proofs.Kit.{sym, subst, ◌∙◌, rules}
 use Rattle.answer.specs.Replies.{Reply, Answered}
 use Rattle.answer.proofs.Rooms.{refused_by}
 use Rattle.strict.proofs.FirstAbove.{replied}
@@ -18,7 +18,7 @@ returns-2 c =
     let checked = told.before.before in
     let s = checked.before.before.before in
     let reply = sym (replied _ _ _ (sym checked.check-keys.ensures ∙ told.enum_told.given.1)) in
-    subst (λ (x : Reply). Answered x (now s.args.out) g.candidates-in.result g.candidates-in.new.1.1.0) reply g.candidates-in.ensures
+    subst (λ (x : Reply). Answered x s.args.out.now g.candidates-in.result g.candidates-in.new.1.1.0) reply g.candidates-in.ensures
 
 pub candidates_strict_in_spec : {M : Type 1} → statement M
 candidates_strict_in_spec = tie.close (tie.spec

@@ -1,5 +1,5 @@
 -- `strict::entry::check_keys` meets its contract. The loop's invariant: what is refused of the codes that are left is what is refused of all.
-use Rattle.answer.proofs.Kit.{◌≡◌, sym, ap, ◌∙◌, List, ◌∷◌, ℕ, ◌+◌, ◌-◌, ◌≤◌, ◌<◌, add-one, arith, length, drop, get_or, drop-cons, drop-length, now, lt-leb, le-leb}
+use Rattle.answer.proofs.Kit.{◌≡◌, sym, ap, ◌∙◌, List, ◌∷◌, ℕ, ◌+◌, ◌-◌, ◌≤◌, ◌<◌, add-one, arith, length, drop, get_or, drop-cons, drop-length, lt-leb, le-leb}
 use Rattle.answer.proofs.FirstRefused.{refused_from, here, onward, from_0, at_end}
 use Rattle.answer.specs.declared.refusal.Checked.{Checked}
 use Rattle.answer.specs.declared.refusal.Checked.TheVariants.{Passed, Refused}
@@ -38,17 +38,17 @@ from_start codes = from_0 is_no_key not_akey codes
 returns : tie.Need-returns invariant-loop decreases-loop
 returns c =
     let l = c.before.before.before in
-    sym (stops (now l.before.args.codes) l.loop.i (omega arith) c.if1.true) ∙ l.loop.invariant.1
+    sym (stops l.before.args.codes.now l.loop.i (omega arith) c.if1.true) ∙ l.loop.invariant.1
 
 loop-again : tie.Need-loop-preserved invariant-loop decreases-loop
 loop-again c =
     let l = c.before.before.before in
-    (omega arith, sym (goes_on (now l.before.args.codes) l.loop.i (omega arith) c.if1.false) ∙ l.loop.invariant.1)
+    (omega arith, sym (goes_on l.before.args.codes.now l.loop.i (omega arith) c.if1.false) ∙ l.loop.invariant.1)
 
 returns-2 : tie.Need-returns-2 invariant-loop decreases-loop
 returns-2 c =
     let l = c.before in
-    sym (all_passed (now l.before.args.codes) l.loop.i (omega arith)) ∙ l.loop.invariant.1
+    sym (all_passed l.before.args.codes.now l.loop.i (omega arith)) ∙ l.loop.invariant.1
 
 pub check_keys_spec : {M : Type 1} → statement M
 check_keys_spec = tie.close (tie.spec

@@ -1,5 +1,5 @@
 -- `voicings::voicing::voicing` meets its contract: the tests say what the call has to give, and `give` gives it.
-use Rattle.answer.proofs.Kit.{◌≡◌, sym, ap, ap₂, subst, ◌∙◌, List, ◌++◌, ℕ, suc, ◌+◌, ◌≤◌, ◌<◌, add-one, arith, length, replicate, take_all, now, rules}
+use Rattle.answer.proofs.Kit.{◌≡◌, sym, ap, ap₂, subst, ◌∙◌, List, ◌++◌, ℕ, suc, ◌+◌, ◌≤◌, ◌<◌, add-one, arith, length, replicate, take_all, rules}
 use Rattle.answer.specs.Replies.{Reply, text, Answered}
 use Rattle.answer.specs.Written.{Writes}
 use Rattle.answer.proofs.Rooms.{refused_by}
@@ -55,7 +55,7 @@ module _ (c : tie.After-nearest-lead) where
   chord = (start told).args.chord
 
   abbrev tones : List Tone
-  tones = tones_of (now (start told).args.classes) (now (start told).args.intervals)
+  tones = tones_of (start told).args.classes.now (start told).args.intervals.now
 
   good_pairs : pairs_checked tones ≡ Passed
   good_pairs = sym pairs_passed.before.before.check-pairs.ensures ∙ pairs_passed.enum-told2.given.1
@@ -94,7 +94,7 @@ module _ (c : tie.After-put-above) where
   limit_is : above (lowest lead) (limit lead) (wanted lead) (sorted (tones lead)) ≡ above (lowest lead) (suc (chord lead).highest) (wanted lead) (sorted (tones lead))
   limit_is = rw add-one
 
-  stands : Writes (replicate 35 0) 0 (voicing_of (chord lead) (now (start (told lead)).args.classes) (now (start (told lead)).args.intervals)) c.put-above.result c.put-above.new.0
+  stands : Writes (replicate 35 0) 0 (voicing_of (chord lead) (start (told lead)).args.classes.now (start (told lead)).args.intervals.now) c.put-above.result c.put-above.new.0
   unfolding voicing_of
   stands =
       same_text
@@ -107,8 +107,8 @@ returns-3 c =
     let p = g.before.before.before.before in
     let l = lead p in
     let s = start (told l) in
-    let reply = ap text (stands p).added ∙ sym (gives_voicing (chord l) (now s.args.classes) (now s.args.intervals) (good (told l)) (good_pairs l)) in
-    subst (λ (x : Reply). Answered x (now s.args.out) g.give.result g.give.new.1.0) reply g.give.ensures
+    let reply = ap text (stands p).added ∙ sym (gives_voicing (chord l) s.args.classes.now s.args.intervals.now (good (told l)) (good_pairs l)) in
+    subst (λ (x : Reply). Answered x s.args.out.now g.give.result g.give.new.1.0) reply g.give.ensures
 
 -- the chord's keys are bytes
 module _ (c : tie.After-struct-known) where

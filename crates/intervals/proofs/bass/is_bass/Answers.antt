@@ -1,0 +1,7 @@
+-- `intervals::bass::is_bass` meets its contract: by whether there is one.
+use Rattle.answer.proofs.Kit.{sym, ap, rules}
+use Rattle.intervals.specs.Bass.{is_bass}
+use Rattle.intervals.proofs.bass.is_bass.Goals as goal
+
+pub returns-in-Class : goal.returns-in-Class
+returns-in-Class c = sym (ap is_bass c.in-Class.is)
