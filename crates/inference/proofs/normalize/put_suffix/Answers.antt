@@ -11,8 +11,8 @@ use Rattle.descriptors.proofs.Replied as Replied
 use Rattle.inference.specs.private.Described.{head_of, parts_of, Small}
 use Rattle.inference.proofs.Described.{head_told, parts_told, small_told}
 use Rattle.inference.proofs.Puts.{no_room, no_set, placed}
-use Rattle.inference.proofs.normalize.put_suffix.Statement.{statement}
-use Rattle.inference.proofs.normalize.put_suffix.Tie as tie
+use Rattle.inference.proofs.normalize.put_suffix.Goals as goal
+use Rattle.inference.proofs.normalize.put_suffix.Goals.{In-Is}
 
 -- of a rooted set and its descriptor
 module _ (s : ℕ) (d : Descriptor) (told : (is_rooted s ≡ true) × (d ≡ descriptor_of s)) where
@@ -32,22 +32,21 @@ module _ (s : ℕ) (d : Descriptor) (told : (is_rooted s ≡ true) × (d ≡ des
       let short = suffix_short s told.0 in
       omega arith
 
-described : (c : tie.After-descriptor) → let a = c.before.before in
-    (is_rooted a.before.before.before.before.args.set ≡ true) × (c.descriptor.given.0.0 ≡ descriptor_of a.before.before.before.before.args.set)
-described c = let a = c.before.before in Replied.described a.before.before.before.before.args.set _ a.describe.ensures _ c.descriptor.given.1
 
-pub put_suffix_spec : {M : Type 1} → statement M
-put_suffix_spec = tie.close (tie.spec
-    (λ c. no_room _ _ _ (let h = c.if1.true in omega arith))
-    (λ c. search rules)
-    (λ c. no_room _ _ _ (let h = c.if2.true in let k = c.before.if1.false in omega arith))
-    (λ c κs. search rules) (λ c. search rules)
-    (λ c κs. let k = c.before.before in
-    let e = k.before.before.before in
-    (is_small _ _ (described k), room _ _ (described k) _ _ (let h = e.if2.false in let g = e.before.if1.false in omega arith)))
-    (λ c. search rules) (λ c. search rules)
-    (λ c. let p = c.before.before in
-    let k = p.before.before.before in
-    let e = k.before.before.before in
-    placed _ _ _ (described k).0 (let h = e.if2.false in let g = e.before.if1.false in omega arith) _ _ (same_text (text _ _ (described k)) p.put-described.ensures))
-    (λ c. let a = c.before.before in no_set _ _ _ (Replied.refused _ _ a.describe.ensures _ c.enum_told.given.1)))
+described : (c : In-Is) → (is_rooted c.args.set ≡ true) × (c.in-Is.descriptor ≡ descriptor_of c.args.set)
+described c = Replied.described c.args.set _ c.describe.ensures _ c.in-Is.is
+
+pub returns-then-buffer-lt-ROOM : goal.returns-then-buffer-lt-ROOM
+returns-then-buffer-lt-ROOM c = no_room _ _ _ (let h = c.if-buffer-lt-ROOM.true in omega arith)
+
+pub returns-then-buffer-at : goal.returns-then-buffer-at
+returns-then-buffer-at c = no_room _ _ _ (let h = c.if-buffer-at.true in let k = c.if-buffer-lt-ROOM.false in omega arith)
+
+pub put_described-requires : goal.put_described-requires
+put_described-requires c = (is_small _ _ (described (goal.at.put_described-requires c).In-Is), room _ _ (described (goal.at.put_described-requires c).In-Is) _ _ (let h = c.if-buffer-at.false in let g = c.if-buffer-lt-ROOM.false in omega arith))
+
+pub returns-in-Is : goal.returns-in-Is
+returns-in-Is c = placed _ _ _ (described (goal.at.returns-in-Is c).In-Is).0 (let h = c.if-buffer-at.false in let g = c.if-buffer-lt-ROOM.false in omega arith) _ _ (same_text (text _ _ (described (goal.at.returns-in-Is c).In-Is)) c.put_described.ensures)
+
+pub returns-in-Refused : goal.returns-in-Refused
+returns-in-Refused c = no_set _ _ _ (Replied.refused _ _ c.describe.ensures _ c.in-Refused.is)
