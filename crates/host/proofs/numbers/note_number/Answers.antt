@@ -6,8 +6,7 @@ use mir.Facts.{to_z-of_z}
 use Rattle.notes.specs.Notes.{count_of}
 use Rattle.notes.specs.declared.note.Accidental.{Accidental}
 use Rattle.host.proofs.Wide.{held_pos, fits_less, fits_sum}
-use Rattle.host.proofs.numbers.note_number.Statement.{statement}
-use Rattle.host.proofs.numbers.note_number.Tie as tie
+use Rattle.host.proofs.numbers.note_number.Goals as goal
 
 module _ (l : ℕ) (h : l < 2 ^ 32) where
   natural_held : to_z w64 (16 * l + 6) ≡ pos (16 * l + 6)
@@ -26,23 +25,19 @@ module _ (l : ℕ) (h : l < 2 ^ 32) where
     sum_fits : SFits w64 (to_z w64 (16 * l + 6) +ℤ to_z w64 (of_z w64 (to_z w32 (of_z w32 z))))
     sum_fits = rw sum (fits_sum (16 * l + 6) z (omega arith) f)
 
-returns : tie.Need-returns
-returns c =
-    let a = c.before.before.args.note in
+
+pub overflow_cast-result : goal.overflow_cast-result
+overflow_cast-result c = count_fits c.args.note.letter (search rules) c.in-Count.count (search rules)
+
+pub overflow_add-result : goal.overflow_add-result
+overflow_add-result c = sum_fits c.args.note.letter (search rules) c.in-Count.count (search rules)
+
+pub returns-in-None : goal.returns-in-None
+returns-in-None c = let a = c.args.note in
     natural_held a.letter (search rules) ∙ sym (+ℤ_idr (pos (16 * a.letter + 6)))
-    ∙ ap (λ (x : Accidental). pos (16 * a.letter + 6) +ℤ count_of x) (sym c.enum_told.given.1)
+    ∙ ap (λ (x : Accidental). pos (16 * a.letter + 6) +ℤ count_of x) (sym c.in-None.is)
 
-returns-2 : tie.Need-returns-2
-returns-2 c =
-    let a = c.before.before.before.args.note in
-    let read = c.before.accidental.given in
-    to_z-of_z (sum_fits a.letter (search rules) read.0.0 (search rules)) ∙ sum a.letter (search rules) read.0.0 (search rules)
-    ∙ ap (λ (x : Accidental). pos (16 * a.letter + 6) +ℤ count_of x) (sym read.1)
-
-pub note_number_spec : {M : Type 1} → statement M
-note_number_spec = tie.close (tie.spec
-    (λ c. search rules) (λ c. search rules) (λ c. search rules) (λ c. search rules) (λ c. search rules) (λ c. search rules)
-    (λ c. count_fits c.before.before.before.args.note.letter (search rules) c.before.accidental.given.0.0 (search rules))
-    (λ c. sum_fits c.before.before.before.args.note.letter (search rules) c.before.accidental.given.0.0 (search rules))
-    returns
-    returns-2)
+pub returns-in-Count : goal.returns-in-Count
+returns-in-Count c = let a = c.args.note in
+    to_z-of_z (sum_fits a.letter (search rules) c.in-Count.count (search rules)) ∙ sum a.letter (search rules) c.in-Count.count (search rules)
+    ∙ ap (λ (x : Accidental). pos (16 * a.letter + 6) +ℤ count_of x) (sym c.in-Count.is)

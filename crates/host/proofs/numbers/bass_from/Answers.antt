@@ -2,13 +2,13 @@
 use Rattle.answer.proofs.Kit.{◌≡◌, sym, ap, Bool, true, false, cond, ℕ, eqb, eq-eqb, ne_eqb}
 use Rattle.intervals.specs.declared.bass.Bass.TheVariants.{None, Class}
 use Rattle.host.specs.Numbers.{bass_from}
-use Rattle.host.proofs.numbers.bass_from.Statement.{statement}
-use Rattle.host.proofs.numbers.bass_from.Tie as tie
+use Rattle.host.proofs.numbers.bass_from.Goals as goal
 
 by_test : (bass : ℕ) (b : Bool) → eqb bass 255 ≡ b → cond b None (Class bass) ≡ bass_from bass
 by_test bass b e = ap (λ (x : Bool). cond x None (Class bass)) (sym e)
 
-pub bass_from_spec : {M : Type 1} → statement M
-bass_from_spec = tie.close (tie.spec
-    (λ c. by_test c.before.args.bass true (eq-eqb _ _ c.if1.true))
-    (λ c. by_test c.before.args.bass false (ne_eqb _ _ c.if1.false)))
+pub returns-then-bass-eq-NO_BASS : goal.returns-then-bass-eq-NO_BASS
+returns-then-bass-eq-NO_BASS c = by_test c.args.bass true (eq-eqb _ _ c.if-bass-eq-NO_BASS.true)
+
+pub returns : goal.returns
+returns c = by_test c.args.bass false (ne_eqb _ _ c.if-bass-eq-NO_BASS.false)

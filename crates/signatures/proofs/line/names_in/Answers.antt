@@ -7,8 +7,7 @@ use Rattle.answer.proofs.Between.{not_below, not_above, inside}
 use Rattle.names.specs.declared.table.Names.TheVariants.{Flats, Sharps}
 use Rattle.signatures.specs.declared.line.Called.TheVariants.{For, Nothing}
 use Rattle.signatures.specs.Signature.{is_signature, names_for, names_in}
-use Rattle.signatures.proofs.line.names_in.Statement.{statement}
-use Rattle.signatures.proofs.line.names_in.Tie as tie
+use Rattle.signatures.proofs.line.names_in.Goals as goal
 
 -- a signed number is held as bits, and what is read back is the number, since it fits
 abbrev held : ℤ → ℤ
@@ -30,9 +29,15 @@ module _ (z : ℤ) (f : SFits w32 z) where
       ap (λ (x : Bool). For (cond x Sharps Flats)) (sym (rw (to_z-of_z f) at is))
       ∙ by_range true (inside (neg_ℤ (pos 7)) (pos 7) z (rw (to_z-of_z f) at low) (rw (to_z-of_z f) at high))
 
-pub names_in_spec : {M : Type 1} → statement M
-names_in_spec = tie.close (tie.spec
-    (λ c. too_low _ c.before.ranges.fifths c.if1.true)
-    (λ c. too_high _ c.before.before.ranges.fifths c.if2.true)
-    (λ c. let s = c.before.before.before in in_key _ s.ranges.fifths c.before.before.if1.false c.before.if2.false true c.if3.true)
-    (λ c. let s = c.before.before.before in in_key _ s.ranges.fifths c.before.before.if1.false c.before.if2.false false c.if3.false))
+
+pub returns-then-fifths-lt-MOST_FLATS : goal.returns-then-fifths-lt-MOST_FLATS
+returns-then-fifths-lt-MOST_FLATS c = too_low _ c.ranges.fifths c.if-fifths-lt-MOST_FLATS.true
+
+pub returns-then-fifths-gt-MOST_SHARPS : goal.returns-then-fifths-gt-MOST_SHARPS
+returns-then-fifths-gt-MOST_SHARPS c = too_high _ c.ranges.fifths c.if-fifths-gt-MOST_SHARPS.true
+
+pub returns-then-fifths-gt0 : goal.returns-then-fifths-gt0
+returns-then-fifths-gt0 c = in_key _ c.ranges.fifths c.if-fifths-lt-MOST_FLATS.false c.if-fifths-gt-MOST_SHARPS.false true c.if-fifths-gt0.true
+
+pub returns : goal.returns
+returns c = in_key _ c.ranges.fifths c.if-fifths-lt-MOST_FLATS.false c.if-fifths-gt-MOST_SHARPS.false false c.if-fifths-gt0.false

@@ -1,5 +1,4 @@
 -- `signatures::line::line_part` meets its contract: by the names that the key calls for.
-use denote.Ref.{Bor}
 use Rattle.answer.proofs.Kit.{◌≡◌, sym, ap, ◌∙◌, List, ℕ, ℤ, length, Bor, rules}
 use mir.Facts.{to_z-of_z}
 use Rattle.names.specs.declared.table.Names.{Names}
@@ -9,8 +8,7 @@ use Rattle.signatures.specs.declared.line.Called.TheVariants.{For, Nothing}
 use Rattle.signatures.specs.Signature.{names_in}
 use Rattle.signatures.specs.Part.{found_in, listing_in, part_at, part_for, part_of}
 use Rattle.signatures.proofs.Laws.{its_bytes}
-use Rattle.signatures.proofs.line.line_part.Statement.{statement}
-use Rattle.signatures.proofs.line.line_part.Tie as tie
+use Rattle.signatures.proofs.line.line_part.Goals as goal
 
 -- of a key that calls for some names, the line in the listing that has them
 module _ (flat sharp : Bor (List ℕ)) (number : ℕ) (fifths : ℤ) where
@@ -21,24 +19,12 @@ module _ (flat sharp : Bor (List ℕ)) (number : ℕ) (fifths : ℤ) where
   in_names : (names : Names) (listing : Bor (List ℕ)) (found : Found) → names_in fifths ≡ For names → listing ≡ listing_in names flat sharp → found ≡ found_in listing.now number
       → part_at names (length flat.now) found ≡ part_of flat.now sharp.now number fifths
   in_names names listing found called is at =
-      ap (part_at names (length flat.now)) (at ∙ ap (λ (t : List ℕ). found_in t number) (ap is.now ∙ its_bytes names flat sharp)) ∙ in_key (For names) called
+      ap (part_at names (length flat.now)) (at ∙ ap (λ (t : List ℕ). found_in t number) (ap (λ (r : Bor (List ℕ)). r.now) is ∙ its_bytes names flat sharp)) ∙ in_key (For names) called
 
-returns : tie.Need-returns
-returns c =
-    let k = c.before.before.before in
-    let s = k.before.before.before in
-    c.part_at.ensures ∙ in_key s.args.flat s.args.sharp _ _ Nothing (rw (to_z-of_z s.ranges.fifths) at (sym k.names_in.ensures ∙ c.before.enum_told.given.1))
 
-returns-2 : tie.Need-returns-2
-returns-2 c =
-    let n = c.before.before.before.before in
-    let k = n.before.before in
-    let s = k.before.before.before in
-    c.part-at2.ensures
-    ∙ in_names s.args.flat s.args.sharp _ _ _ _ _ (rw (to_z-of_z s.ranges.fifths) at (sym k.names_in.ensures ∙ n.names.given.1)) c.before.before.listing-in.ensures c.before.line-in.ensures
+pub returns-in-Nothing : goal.returns-in-Nothing
+returns-in-Nothing c = c.part_at.ensures ∙ in_key c.args.flat c.args.sharp _ _ Nothing (rw (to_z-of_z c.ranges.fifths) at (sym c.names_in.ensures ∙ c.in-Nothing.is))
 
-pub line_part_spec : {M : Type 1} → statement M
-line_part_spec = tie.close (tie.spec
-    (λ c κs. search rules) (λ c. search rules) (λ c κs. search rules) (λ c. search rules) (λ c κs. search rules) (λ c κs. search rules) (λ c κs. search rules)
-    returns
-    returns-2)
+pub returns-in-For : goal.returns-in-For
+returns-in-For c = c.part_at-in-For.ensures
+    ∙ in_names c.args.flat c.args.sharp _ _ _ _ _ (rw (to_z-of_z c.ranges.fifths) at (sym c.names_in.ensures ∙ c.in-For.is)) c.listing_in-listing.ensures c.line_in.ensures

@@ -1,0 +1,13 @@
+-- `host::numbers::quality_number` meets its contract: by the answer's case.
+use Rattle.answer.proofs.Kit.{ap, sym, ◌∙◌, pos, rules}
+use mir.Syntax.{w64}
+use mir.Facts.{to_z-of_z}
+use Rattle.host.specs.Numbers.{quality_number}
+use Rattle.host.proofs.Wide.{held_pos}
+use Rattle.host.proofs.numbers.quality_number.Goals as goal
+
+pub returns-in-Is : goal.returns-in-Is
+returns-in-Is c = held_pos _ (search rules) ∙ ap pos c.number.ensures ∙ ap quality_number (sym c.in-Is.is)
+
+pub returns-in-Refused : goal.returns-in-Refused
+returns-in-Refused c = to_z-of_z {w = w64} (search rules) ∙ c.refused.ensures ∙ ap quality_number (sym c.in-Refused.is)
