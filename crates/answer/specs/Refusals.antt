@@ -3,7 +3,6 @@ use Rattle.std.specs.Prelude.{ℕ}
 use Rattle.answer.specs.declared.refusal.Refusal.{Refusal}
 use Rattle.answer.specs.declared.refusal.Refusal.TheVariants.{NotASet, BadClass, TooManyPairs, BadPairClass, BadPairInterval, BadNote, BadMove, NotAKey, BadRange, NoRoom}
 use Rattle.answer.specs.declared.refusal.Place.{Place}
-use Rattle.answer.specs.declared.refusal.Place.TheVariants as Place
 
 -- what a refusal tells
 pub record Told : Type 0 where

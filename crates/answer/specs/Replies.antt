@@ -2,7 +2,6 @@
 use Rattle.std.specs.Prelude.{◌≡◌, Bool, not, cond, List, ◌++◌, ℕ, ◌≤◌, T, eqb, leb, length, drop}
 use Rattle.answer.specs.Refusals.{told_of}
 use Rattle.answer.specs.declared.refusal.Checked.{Checked}
-use Rattle.answer.specs.declared.refusal.Checked.TheVariants as Checked
 use Rattle.answer.specs.declared.refusal.Refusal.{Refusal}
 use Rattle.answer.specs.declared.refusal.Refusal.TheVariants.{NoRoom}
 use Rattle.answer.specs.declared.output.Output.{Output}

@@ -4,10 +4,8 @@
 use Rattle.std.specs.Prelude.{cond, ℕ, ◌+◌, ◌*◌, ◌^◌, min, eqb, ℤ, pos, neg_ℤ, ◌+ℤ◌}
 use Rattle.answer.specs.Refusals.{told_of}
 use Rattle.answer.specs.declared.refusal.Place.{Place}
-use Rattle.answer.specs.declared.refusal.Place.TheVariants as Place
 use Rattle.answer.specs.declared.refusal.Refusal.{Refusal}
 use Rattle.intervals.specs.declared.bass.Bass.{Bass}
-use Rattle.intervals.specs.declared.bass.Bass.TheVariants as Bass
 use Rattle.notes.specs.Notes.{count_of}
 use Rattle.qualities.specs.Qualities as Qualities
 use Rattle.notes.specs.declared.note.Note.{Note}
@@ -19,7 +17,6 @@ use Rattle.candidates.specs.declared.parts.Candidate.{Candidate}
 use Rattle.candidates.specs.declared.parts.MaybeCandidate.{MaybeCandidate}
 use Rattle.candidates.specs.declared.parts.MaybeCandidate.TheVariants as Candidate
 use Rattle.names.specs.declared.table.Names.{Names}
-use Rattle.names.specs.declared.table.Names.TheVariants as Names
 
 -- minus a size; where 64 bits hold no number so low, the lowest that they hold
 abbrev pub minus : ℕ → ℤ

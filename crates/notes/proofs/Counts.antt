@@ -10,7 +10,7 @@
 --     plus_six         the height of a count is the count plus six
 --     height_less      and is below 13
 --     lowered_height   from a count to its height and back
-use Rattle.answer.proofs.Kit.{◌≡◌, refl, sym, ap, subst, ◌∙◌, Bool, true, false, not, ◌||◌, ℕ, ◌+◌, ◌-◌, ◌^◌, ◌<◌, ◌≤◌, suc, arith, T, eqb, leb, ltb, ltb→lt, leb→le, T_not, ℤ, pos, negsuc, neg_ℤ, ◌+ℤ◌, ◌-ℤ◌, +ℤ-neg_ℤ_cancel, mag, lt_z, lt-ltb, le-ltb, ne_eqb}
+use Rattle.answer.proofs.Kit.{◌≡◌, refl, sym, ap, subst, ◌∙◌, Bool, true, false, not, ◌||◌, ℕ, ◌^◌, ◌<◌, ◌≤◌, suc, arith, T, eqb, leb, ltb, ltb→lt, leb→le, T_not, ℤ, pos, negsuc, neg_ℤ, ◌+ℤ◌, ◌-ℤ◌, +ℤ-neg_ℤ_cancel, mag, lt_z, lt-ltb, le-ltb, ne_eqb}
 use mir.Syntax.{w32}
 use mir.Val.{SFits, to_z}
 use Rattle.answer.proofs.Between.{not_below, not_above, inside}

@@ -2,7 +2,7 @@
 --     sharps_written   one to six sharps, as the request has them
 --     signs_read       any count is read back from its signs
 --     same_name        so no two notes have one name
-use Rattle.answer.proofs.Kit.{◌≡◌, refl, sym, ap, ◌∙◌, Bool, true, not, ◌||◌, List, [], ◌∷◌, ◌++◌, map, ℕ, zero, suc, ◌+◌, ◌*◌, ◌/◌, ◌%◌, ◌<◌, arith, T, eqb, eqb→eq, eq-eqb, replicate, get_or, drop, ℤ, pos, negsuc}
+use Rattle.answer.proofs.Kit.{◌≡◌, refl, sym, ap, ◌∙◌, Bool, true, not, ◌||◌, List, [], ◌∷◌, ◌++◌, map, ℕ, zero, suc, ◌+◌, ◌*◌, ◌/◌, ◌%◌, ◌<◌, arith, eqb, eqb→eq, eq-eqb, replicate, get_or, drop, ℤ, pos, negsuc}
 use Rattle.answer.specs.Words.{bytes}
 use Rattle.answer.proofs.Tests.{all, at}
 use Rattle.notes.specs.Notes.{count_of, is_note}

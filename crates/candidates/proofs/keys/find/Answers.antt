@@ -1,5 +1,5 @@
 -- `candidates::keys::find` meets its contract. The loop's invariant: what the contract says, of the keys before the one at `i`.
-use Rattle.answer.proofs.Kit.{◌≡◌, refl, ap, subst, ◌∙◌, false, List, ⊎_elim, ℕ, ◌-◌, ◌<◌, ◌≤◌, arith, length, take, get_or, set, length-set, take-length}
+use Rattle.answer.proofs.Kit.{◌≡◌, refl, ap, subst, ◌∙◌, false, List, ℕ, ◌<◌, arith, length, take, get_or, length-set, take-length}
 use Rattle.intervals.specs.Sets.{has}
 use Rattle.candidates.specs.Keys.{key_class}
 use Rattle.candidates.specs.private.Finds.{Finds}
@@ -19,7 +19,6 @@ module _ (c : Then-set-class-eq0) where
       let h = c.loop-i in
       room c.args.keys.now h.order h.i h.set h.count (omega arith) h.invariant.1 absent
 
-
 pub loop-i-init : goal.loop-i-init
 loop-i-init c = (omega arith, none_found _, refl)
 
@@ -38,17 +37,18 @@ pub loop-i-preserved : goal.loop-i-preserved
 loop-i-preserved c = let h = c.loop-i in
     let keys = c.args.keys.now in
     elim c.if-set-class-eq0.branch [
-      then-set-class-eq0 w ↦ (
+      | then-set-class-eq0 w ↦ (
         omega arith,
         rw (w.order-is, w.set-is, w.count-is, bit_held (key_class (get_or keys h.i 0)) (omega arith))
             (found_new keys h.order h.i h.set h.count (omega arith) h.invariant.1 (missing _ _ w.if-set-class-eq0.true) (omega arith)),
         ap length w.order-is ∙ simp length-set h.invariant.2,
       )
-    | else-set-class-eq0 w ↦ (
+      | else-set-class-eq0 w ↦ (
         omega arith,
         rw (w.order-is, w.set-is, w.count-is) (found_old keys h.order h.i h.set h.count (omega arith) h.invariant.1 (present _ _ w.if-set-class-eq0.false)),
         ap length w.order-is ∙ h.invariant.2,
-      ) ]
+      )
+    ]
 
 pub returns : goal.returns
 returns c = let h = c.loop-i in

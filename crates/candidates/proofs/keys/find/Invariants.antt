@@ -1,11 +1,6 @@
 -- `candidates::keys::find` meets its contract. The loop's invariant: what the contract says, of the keys before the one at `i`.
-use Rattle.answer.proofs.Kit.{◌≡◌, refl, ap, subst, ◌∙◌, false, List, ⊎_elim, ℕ, ◌-◌, ◌<◌, ◌≤◌, arith, length, take, get_or, set, length-set, take-length}
-use Rattle.intervals.specs.Sets.{has}
-use Rattle.candidates.specs.Keys.{key_class}
+use Rattle.answer.proofs.Kit.{◌≡◌, ◌-◌, ◌≤◌, length, take}
 use Rattle.candidates.specs.private.Finds.{Finds}
-use Rattle.intervals.proofs.Members.{present, missing}
-use Rattle.intervals.proofs.Width.{bit_held}
-use Rattle.candidates.proofs.Firsts.{none_found, found_old, less, room, found_new}
 use Rattle.candidates.proofs.keys.find.Given as goal
 
 abbrev pub invariant-loop-i : goal.invariant-loop-i

@@ -1,5 +1,5 @@
 -- `candidates::keys::seen_from` meets its contract. The loop's invariant: what has been seen is the set's classes below `k`.
-use Rattle.answer.proofs.Kit.{◌≡◌, refl, ap, ap₂, ◌∙◌, ℕ, ◌+◌, ◌-◌, ◌*◌, ◌/◌, ◌%◌, ◌^◌, ◌<◌, ◌≤◌, lt_of_lt_of_le, arith, pow_mono}
+use Rattle.answer.proofs.Kit.{◌≡◌, refl, ap, ap₂, ◌∙◌, ℕ, ◌+◌, ◌*◌, ◌/◌, ◌%◌, ◌^◌, ◌<◌, ◌≤◌, lt_of_lt_of_le, arith, pow_mono}
 use Rattle.intervals.specs.Sets.{set_below, set_where}
 use Rattle.intervals.proofs.Wheres.{below_less}
 use Rattle.candidates.specs.Keys.{seen_from}
@@ -15,7 +15,6 @@ module _ (root s seen k class : ℕ) (h : k < 12) (e : seen ≡ seen_below k roo
   small =
       let most : k + 1 ≤ 12 = omega arith in
       rw next (lt_of_lt_of_le (below_less (k + 1) _) (pow_mono most))
-
 
 pub loop-k-init : goal.loop-k-init
 unfolding set_below

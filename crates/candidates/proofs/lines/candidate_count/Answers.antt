@@ -1,5 +1,5 @@
 -- `candidates::lines::candidate_count` meets its contract: the count of ones of the list's set.
-use Rattle.answer.proofs.Kit.{ap, ◌∙◌, ones, rules}
+use Rattle.answer.proofs.Kit.{ap, ◌∙◌, ones}
 use Rattle.intervals.proofs.Counted.{class_count_lem}
 use Rattle.candidates.proofs.Heard.{set_less}
 use Rattle.candidates.proofs.lines.candidate_count.Goals as goal

@@ -1,5 +1,5 @@
 -- `candidates::lines::put_line` meets its contract: a name, a suffix behind it, what stands behind that, and a line feed.
-use Rattle.answer.proofs.Kit.{refl, subst, [], ◌∷◌, ◌++◌, ℕ, ◌+◌, ◌≤◌, arith, length, rules}
+use Rattle.answer.proofs.Kit.{refl, subst, [], ◌∷◌, ◌++◌, ℕ, ◌+◌, ◌≤◌, arith, length}
 use Rattle.answer.specs.Words.{low, packed, text_of}
 use Rattle.answer.specs.Written.{Writes}
 use Rattle.answer.proofs.Digits.{is_short, are_bytes}

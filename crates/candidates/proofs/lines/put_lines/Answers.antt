@@ -1,14 +1,13 @@
 -- `candidates::lines::put_lines` meets its contract. The loop's invariant: the lines of the classes before `i` are written.
-use Rattle.answer.proofs.Kit.{◌≡◌, refl, ap, ◌∙◌, true, List, [], map, flat_map, ℕ, ◌+◌, ◌-◌, ◌*◌, ◌<◌, ◌≤◌, arith, length, drop, drop-length, rules}
+use Rattle.answer.proofs.Kit.{◌≡◌, refl, ap, ◌∙◌, true, List, [], map, flat_map, ℕ, ◌+◌, ◌-◌, ◌<◌, ◌≤◌, arith, length, drop-length}
 use borrow.Rule.Slice.PartMut.{put_mid}
 use Rattle.intervals.specs.Sets.{has}
 use Rattle.intervals.specs.declared.bass.Bass.TheVariants.{None, Class}
 use Rattle.answer.specs.Words.{digits, long, text_of}
 use Rattle.answer.specs.Written.{Writes}
 use Rattle.answer.proofs.Parts.{part_puts, part_long}
-use Rattle.answer.proofs.Writing.{also, same_text, Puts, SoFar, so_far_none, so_far_next, so_far_all}
+use Rattle.answer.proofs.Writing.{also, same_text, Puts, so_far_none, so_far_next, so_far_all}
 use Rattle.names.specs.Names.{table_of}
-use Rattle.names.specs.declared.table.Names.{Names}
 use Rattle.names.proofs.Named.{table_brief}
 use Rattle.candidates.specs.Candidates.{chord, over, line, lines}
 use Rattle.candidates.proofs.Listed.{name_long, name_text, line_of_pieces, line_length, one_line, all_lines, none_listed}
@@ -86,13 +85,13 @@ slice_bounds-put_line-start c = omega (arith, roomy (goal.at.slice_bounds-put_li
 
 pub put_line-used-requires-in-loop-i : goal.put_line-used-requires-in-loop-i
 put_line-used-requires-in-loop-i c = (
-      name_long (table_of c.args.names) (table_brief c.args.names) c.wide-class.result _ c.class_name-name.ensures,
-      (next_is (goal.at.put_line-used-requires-in-loop-i c).After-wide-class).0,
-      c.requires.0,
-      (next_is (goal.at.put_line-used-requires-in-loop-i c).After-wide-class).1,
-      c.over_name-behind.ensures.1,
-      part_long c.loop-i.out c.loop-i.used 80 (roomy (goal.at.put_line-used-requires-in-loop-i c).In-loop-i),
-    )
+  name_long (table_of c.args.names) (table_brief c.args.names) c.wide-class.result _ c.class_name-name.ensures,
+  (next_is (goal.at.put_line-used-requires-in-loop-i c).After-wide-class).0,
+  c.requires.0,
+  (next_is (goal.at.put_line-used-requires-in-loop-i c).After-wide-class).1,
+  c.over_name-behind.ensures.1,
+  part_long c.loop-i.out c.loop-i.used 80 (roomy (goal.at.put_line-used-requires-in-loop-i c).In-loop-i),
+)
 
 pub overflow_add-used : goal.overflow_add-used
 overflow_add-used c = omega (arith, short_next (goal.at.overflow_add-used c).After-put_line-used-in-loop-i, roomy (goal.at.overflow_add-used c).In-loop-i)

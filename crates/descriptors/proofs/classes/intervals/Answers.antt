@@ -1,5 +1,5 @@
 -- `descriptors::classes::intervals` meets its contract: the steps together are told at each set.
-use Rattle.answer.proofs.Kit.{arith, rules}
+use Rattle.answer.proofs.Kit.{arith}
 use Rattle.rules.proofs.Resolved.{all_told}
 use Rattle.descriptors.proofs.classes.intervals.Goals as goal
 

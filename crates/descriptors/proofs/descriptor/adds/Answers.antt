@@ -1,5 +1,4 @@
 -- `descriptors::descriptor::adds` meets its contract: by whether the quality is diminished.
-use Rattle.answer.proofs.Kit.{rules}
 use Rattle.descriptors.proofs.descriptor.adds.Goals as goal
 
 pub returns-then-diminished : goal.returns-then-diminished

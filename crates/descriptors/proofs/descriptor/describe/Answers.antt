@@ -1,5 +1,5 @@
 -- `descriptors::descriptor::describe` meets its contract: at a rooted set each step is what the rules say.
-use Rattle.answer.proofs.Kit.{◌≡◌, ap, ◌∙◌, true, ℕ, mod-eq_of_lt, arith, rules}
+use Rattle.answer.proofs.Kit.{◌≡◌, ap, ◌∙◌, true, ℕ, mod-eq_of_lt, arith}
 use Rattle.answer.proofs.Tests.{refused, admitted}
 use Rattle.intervals.specs.Sets.{is_rooted}
 use Rattle.intervals.specs.Intervals.{set_of}
@@ -18,7 +18,6 @@ module _ (c : Else-not-is_rooted) where
 
   is : is_rooted set ≡ true
   is = admitted _ _ c.is_rooted.ensures c.if-not-is_rooted.false-raw
-
 
 intervals_told : (c : After-intervals-found) → c.intervals-found.result ≡ set_of (intervals_of (set c.before))
 intervals_told c =

@@ -1,5 +1,4 @@
 -- `descriptors::descriptor::split_extensions` meets its contract: each step is told by what it calls.
-use Rattle.answer.proofs.Kit.{rules}
 use Rattle.descriptors.proofs.Described.{split}
 use Rattle.descriptors.proofs.descriptor.split_extensions.Goals as goal
 

@@ -1,5 +1,4 @@
 -- `descriptors::kinds::kind_of` meets its contract: each arm has the row of its quality.
-use Rattle.answer.proofs.Kit.{rules}
 use Rattle.answer.specs.Words.{bytes, low, packed}
 use Rattle.intervals.specs.Sets.{is_in}
 use Rattle.descriptors.proofs.kinds.kind_of.Goals as goal

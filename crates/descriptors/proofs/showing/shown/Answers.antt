@@ -1,5 +1,5 @@
 -- `descriptors::showing::shown` meets its contract: by the test on its number.
-use Rattle.answer.proofs.Kit.{ap, ◌∙◌, rules}
+use Rattle.answer.proofs.Kit.{ap, ◌∙◌}
 use Rattle.answer.proofs.Tests.{refused, admitted}
 use Rattle.qualities.specs.declared.quality.QualityAnswer.TheVariants.{Is}
 use Rattle.descriptors.proofs.Replied.{shown_not_rooted, shown_rooted}

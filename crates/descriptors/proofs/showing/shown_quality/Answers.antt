@@ -1,5 +1,4 @@
 -- `descriptors::showing::shown_quality` meets its contract: a set with a third put in has a quality.
-use Rattle.answer.proofs.Kit.{rules}
 use Rattle.descriptors.proofs.Shown.{shown, refused}
 use Rattle.descriptors.proofs.showing.shown_quality.Goals as goal
 

@@ -18,7 +18,6 @@ module _ (b : Start) where
   with_third_told : (r : ℕ) → r ≡ with_third_from set → r ≡ with_third set
   with_third_told r e = e ∙ with_third_lem set b.requires
 
-
 pub returns-then-set-eq0 : goal.returns-then-set-eq0
 returns-then-set-eq0 c = (with_third_told (goal.at.returns-then-set-eq0 c).Start _ (search yes), or_lt 12 _ _ (small (goal.at.returns-then-set-eq0 c).Start) (omega arith))
 

@@ -1,5 +1,5 @@
 -- `host::numbers::minus_placed` meets its contract: by whether 64 bits hold the number.
-use Rattle.answer.proofs.Kit.{sym, ◌∙◌, ℕ, ◌+◌, ◌*◌, ◌<◌, ◌^◌, arith, rules}
+use Rattle.answer.proofs.Kit.{sym, ◌∙◌, ℕ, ◌+◌, ◌*◌, ◌<◌, ◌^◌, arith}
 use mir.Facts.{to_z-of_z}
 use Rattle.host.proofs.Wide.{turned, fits_turned, as_written, at_lowest}
 use Rattle.host.proofs.numbers.minus_placed.Goals as goal
@@ -12,7 +12,6 @@ module _ (c : Else-place-below) where
 
   small : size < 2 ^ 63
   small = omega (arith, c.if-place-below.false)
-
 
 pub returns-then-place-below : goal.returns-then-place-below
 returns-then-place-below c = sym (at_lowest (256 * c.args.number + c.args.place) (omega (arith, c.if-place-below.true)))

@@ -1,5 +1,5 @@
 -- `host::numbers::names_number` meets its contract.
-use Rattle.answer.proofs.Kit.{refl, rules}
+use Rattle.answer.proofs.Kit.{refl}
 use Rattle.host.proofs.numbers.names_number.Goals as goal
 
 pub returns-in-Flats : goal.returns-in-Flats

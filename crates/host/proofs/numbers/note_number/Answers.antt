@@ -25,7 +25,6 @@ module _ (l : ℕ) (h : l < 2 ^ 32) where
     sum_fits : SFits w64 (to_z w64 (16 * l + 6) +ℤ to_z w64 (of_z w64 (to_z w32 (of_z w32 z))))
     sum_fits = rw sum (fits_sum (16 * l + 6) z (omega arith) f)
 
-
 pub overflow_cast-result : goal.overflow_cast-result
 overflow_cast-result c = count_fits c.args.note.letter (search rules) c.in-Count.count (search rules)
 

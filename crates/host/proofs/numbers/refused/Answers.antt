@@ -21,7 +21,6 @@ module _ (c : In-None) where
   its_size : minus number ≡ minus (size_of number c.place.result)
   its_size = ap (λ p. minus (size_of number p)) (sym c.in-None.is)
 
-
 pub overflow_sub-result : goal.overflow_sub-result
 overflow_sub-result c = fits_turned (number (goal.at.overflow_sub-result c).In-None) (small (goal.at.overflow_sub-result c).In-None)
 

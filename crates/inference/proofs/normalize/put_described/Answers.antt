@@ -1,5 +1,5 @@
 -- `inference::normalize::put_described` meets its contract: the heading, and behind it the parentheses.
-use Rattle.answer.proofs.Kit.{arith, rules}
+use Rattle.answer.proofs.Kit.{arith}
 use Rattle.answer.proofs.Writing.{also}
 use Rattle.inference.proofs.normalize.put_described.Goals as goal
 

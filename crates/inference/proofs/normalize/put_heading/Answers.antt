@@ -1,5 +1,5 @@
 -- `inference::normalize::put_heading` meets its contract: four words in a row.
-use Rattle.answer.proofs.Kit.{ap, ◌∙◌, cond, not, [], arith, eqb, length-append, rules}
+use Rattle.answer.proofs.Kit.{ap, ◌∙◌, cond, not, [], arith, eqb, length-append}
 use Rattle.answer.specs.Words.{bytes}
 use Rattle.answer.proofs.Writing.{no_puts, then_put}
 use Rattle.rules.specs.Heading.{wording, modified}

@@ -1,5 +1,5 @@
 -- `inference::normalize::put_parentheses` meets its contract: four lists of parts in a row, and what closes them.
-use Rattle.answer.proofs.Kit.{◌≡◌, sym, ap, ap₂, subst, ◌∙◌, List, [], ◌++◌, append-nil, append_assoc, ℕ, ◌+◌, ◌≤◌, le_refl, bit_xor, xor_lt, length, rules}
+use Rattle.answer.proofs.Kit.{◌≡◌, sym, ap, ap₂, subst, ◌∙◌, List, [], ◌++◌, append-nil, append_assoc, ℕ, ◌+◌, ◌≤◌, le_refl, bit_xor, xor_lt, length}
 use Rattle.answer.specs.Words.{bytes}
 use Rattle.answer.specs.Written.{Writes}
 use Rattle.rules.specs.Classes.{intervals_in}

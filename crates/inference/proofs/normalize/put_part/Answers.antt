@@ -1,5 +1,5 @@
 -- `inference::normalize::put_part` meets its contract: three words in a row.
-use Rattle.answer.proofs.Kit.{ap, ◌∙◌, cond, arith, eqb, length-append, rules}
+use Rattle.answer.proofs.Kit.{ap, ◌∙◌, cond, arith, eqb, length-append}
 use Rattle.answer.specs.Words.{bytes, packed}
 use Rattle.intervals.specs.Intervals.{numbered}
 use Rattle.intervals.specs.declared.interval.MaybeInterval.{MaybeInterval}

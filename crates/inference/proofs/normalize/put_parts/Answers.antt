@@ -1,7 +1,7 @@
 -- `inference::normalize::put_parts` meets its contract. The loop's invariant: what is written so far, with what is left to write, is
 -- the whole.
 use Rattle.rules.proofs.First.{number_small, bit_within, less}
-use Rattle.inference.proofs.Turn.{Turn, begin, end, turn, room}
+use Rattle.inference.proofs.Turn.{begin, end, turn, room}
 use Rattle.inference.proofs.normalize.put_parts.Goals as goal
 
 pub loop-left-init : goal.loop-left-init

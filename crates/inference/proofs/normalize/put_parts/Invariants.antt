@@ -1,7 +1,6 @@
 -- `inference::normalize::put_parts` meets its contract. The loop's invariant: what is written so far, with what is left to write, is
 -- the whole.
-use Rattle.rules.proofs.First.{number_small, bit_within, less}
-use Rattle.inference.proofs.Turn.{Turn, begin, end, turn, room}
+use Rattle.inference.proofs.Turn.{Turn}
 use Rattle.inference.proofs.normalize.put_parts.Given as goal
 
 abbrev pub invariant-loop-left : goal.invariant-loop-left

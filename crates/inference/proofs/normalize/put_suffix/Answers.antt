@@ -1,6 +1,6 @@
 -- `inference::normalize::put_suffix` meets its contract: where there is room, a rooted set has a descriptor, and what is written off it is the
 -- suffix.
-use Rattle.answer.proofs.Kit.{◌≡◌, sym, ap, ap₂, subst, ◌∙◌, true, List, ◌++◌, ℕ, ◌+◌, ◌≤◌, arith, length, length-append, rules}
+use Rattle.answer.proofs.Kit.{◌≡◌, sym, ap, ap₂, subst, ◌∙◌, true, List, ◌++◌, ℕ, ◌+◌, ◌≤◌, arith, length, length-append}
 use Rattle.answer.proofs.Writing.{same_text}
 use Rattle.intervals.specs.Sets.{is_rooted}
 use Rattle.rules.specs.Suffix.{parenthesized, suffix_of}
@@ -31,7 +31,6 @@ module _ (s : ℕ) (d : Descriptor) (told : (is_rooted s ≡ true) × (d ≡ des
       let sum : length (head_of d) + length (parenthesized (parts_of d)) ≡ length (suffix_of s) = sym (length-append (head_of d) (parenthesized (parts_of d))) ∙ ap length text in
       let short = suffix_short s told.0 in
       omega arith
-
 
 described : (c : In-Is) → (is_rooted c.args.set ≡ true) × (c.in-Is.descriptor ≡ descriptor_of c.args.set)
 described c = Replied.described c.args.set _ c.describe.ensures _ c.in-Is.is

@@ -1,5 +1,5 @@
 -- `inference::normalize::suffix` meets its contract: the tests say what the call has to give, and `give` gives it.
-use Rattle.answer.proofs.Kit.{◌≡◌, sym, ap, subst, ◌∙◌, true, ℕ, arith, replicate, rules}
+use Rattle.answer.proofs.Kit.{◌≡◌, sym, ap, subst, ◌∙◌, true, ℕ, arith, replicate}
 use Rattle.answer.specs.Written.{Writes}
 use Rattle.answer.specs.Replies.{Reply, text, Answered}
 use Rattle.answer.proofs.Rooms.{refused_by}

@@ -1,5 +1,5 @@
 -- `inference::wording::modifier_word` meets its contract: by whether there is a modifier.
-use Rattle.answer.proofs.Kit.{ap, ◌∙◌, cond, ℕ, rules}
+use Rattle.answer.proofs.Kit.{ap, ◌∙◌, cond, ℕ}
 use Rattle.inference.proofs.wording.modifier_word.Goals as goal
 
 pub returns-in-Is : goal.returns-in-Is

@@ -1,5 +1,4 @@
 -- `inference::wording::notation` meets its contract: an interval's word, or the one for none.
-use Rattle.answer.proofs.Kit.{rules}
 use Rattle.answer.specs.Words.{bytes, low, packed}
 use Rattle.inference.proofs.wording.notation.Goals as goal
 

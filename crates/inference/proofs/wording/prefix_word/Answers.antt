@@ -1,5 +1,4 @@
 -- `inference::wording::prefix_word` meets its contract: each word is its text's.
-use Rattle.answer.proofs.Kit.{rules}
 use Rattle.answer.specs.Words.{bytes, low, packed}
 use Rattle.inference.proofs.wording.prefix_word.Goals as goal
 

@@ -1,5 +1,5 @@
 -- `intervals::bass::is_bass` meets its contract: by whether there is one.
-use Rattle.answer.proofs.Kit.{sym, ap, rules}
+use Rattle.answer.proofs.Kit.{sym, ap}
 use Rattle.intervals.specs.Bass.{is_bass}
 use Rattle.intervals.proofs.bass.is_bass.Goals as goal
 

@@ -1,5 +1,5 @@
 -- `listing::search::is_same` meets its contract. The loop's invariant: the texts are the same if they are from `i` on.
-use Rattle.answer.proofs.Kit.{◌≡◌, refl, sym, ap, ◌∙◌, Bool, ◌&&◌, ℕ, ◌+◌, ◌-◌, ◌≤◌, arith, length, drop, get_or, eq-eqb}
+use Rattle.answer.proofs.Kit.{◌≡◌, refl, sym, ap, ◌∙◌, Bool, ◌&&◌, ℕ, ◌+◌, arith, length, drop, get_or, eq-eqb}
 use Rattle.answer.specs.Words.{same}
 use Rattle.listing.proofs.Compared.{other_length, other_byte, compared, all_compared}
 use Rattle.listing.proofs.search.is_same.Goals as goal

@@ -1,5 +1,5 @@
 -- `listing::search::is_suffix` meets its contract: the suffix of a rooted set is put at the front of the buffer.
-use Rattle.answer.proofs.Kit.{ap, ◌∙◌, arith, replicate, rules}
+use Rattle.answer.proofs.Kit.{ap, ◌∙◌, arith, replicate}
 use Rattle.answer.specs.Words.{same}
 use Rattle.answer.specs.Written.{Writes}
 use Rattle.answer.proofs.Writing.{counted, within}

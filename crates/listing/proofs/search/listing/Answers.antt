@@ -1,5 +1,5 @@
 -- `listing::search::listing` meets its contract: what was found stands at the front of the buffer, and that is given.
-use Rattle.answer.proofs.Kit.{ap, sym, ◌∙◌, List, [], arith, rules}
+use Rattle.answer.proofs.Kit.{ap, sym, ◌∙◌, List, [], arith}
 use Rattle.answer.specs.Replies.{text, output_of, room_after}
 use Rattle.answer.proofs.Rooms.{written}
 use Rattle.answer.proofs.Writing.{counted, within}

@@ -1,5 +1,5 @@
 -- `listing::search::put_set` meets its contract.
-use Rattle.answer.proofs.Kit.{arith, length-set, rules}
+use Rattle.answer.proofs.Kit.{arith, length-set}
 use Rattle.listing.proofs.Found.{puts_set}
 use Rattle.listing.proofs.search.put_set.Goals as goal
 

@@ -1,5 +1,5 @@
 -- `listing::search::search` meets its contract. The loop's invariant: of the listing, what the sets from the one at `i` on give is left.
-use Rattle.answer.proofs.Kit.{◌≡◌, ap, sym, subst, subst₂, ◌∙◌, List, ⊎_elim, ℕ, ◌+◌, ◌-◌, ◌≤◌, arith}
+use Rattle.answer.proofs.Kit.{◌≡◌, ap, sym, subst, subst₂, ◌∙◌, List, ℕ, ◌+◌, arith}
 use Rattle.answer.proofs.Writing.{SoFar, so_far_none, so_far_next, so_far_all}
 use Rattle.intervals.proofs.Rooted.{is_rooted_lem}
 use Rattle.suffixes.specs.Sets.{matching, sets_of}
@@ -25,16 +25,17 @@ loop-i-preserved c = let h = c.loop-i in
     let l₀ = c.args.found.now in
     let is = c.is_suffix.ensures in
     elim c.if-is_suffix.branch [
-      then-is_suffix w ↦ (
+      | then-is_suffix w ↦ (
         subst₂ (λ (l : List ℕ) (n : ℕ). SoFar l₀ 0 (listing_of t) l n (left_of t (h.i + 1))) (sym w.found-is) (sym w.used-is)
             (so_far_next h.invariant.0 _ _ (one_found t h.i (omega arith) (sym is ∙ w.if-is_suffix.true)) record { wrote = w.put_set-used.ensures; same = w.put_set-used.auto.found }),
         omega arith,
       )
-    | else-is_suffix w ↦ (
+      | else-is_suffix w ↦ (
         subst₂ (λ (l : List ℕ) (n : ℕ). SoFar l₀ 0 (listing_of t) l n (left_of t (h.i + 1))) (sym w.found-is) (sym w.used-is)
             (subst (SoFar l₀ 0 (listing_of t) h.found h.used) (one_skipped t h.i (omega arith) (sym is ∙ w.if-is_suffix.false)) h.invariant.0),
         omega arith,
-      ) ]
+      )
+    ]
 
 pub returns : goal.returns
 unfolding matching in_bytes

@@ -1,10 +1,8 @@
 -- `listing::search::search` meets its contract. The loop's invariant: of the listing, what the sets from the one at `i` on give is left.
-use Rattle.answer.proofs.Kit.{◌≡◌, ap, sym, subst, subst₂, ◌∙◌, List, ⊎_elim, ℕ, ◌+◌, ◌-◌, ◌≤◌, arith}
-use Rattle.answer.proofs.Writing.{SoFar, so_far_none, so_far_next, so_far_all}
-use Rattle.intervals.proofs.Rooted.{is_rooted_lem}
-use Rattle.suffixes.specs.Sets.{matching, sets_of}
-use Rattle.listing.specs.Listing.{in_bytes, listing_of}
-use Rattle.listing.proofs.Found.{left_of, one_found, one_skipped, has_room_lem}
+use Rattle.answer.proofs.Kit.{◌-◌, ◌≤◌}
+use Rattle.answer.proofs.Writing.{SoFar}
+use Rattle.listing.specs.Listing.{listing_of}
+use Rattle.listing.proofs.Found.{left_of}
 use Rattle.listing.proofs.search.search.Given as goal
 
 abbrev pub invariant-loop-i : goal.invariant-loop-i

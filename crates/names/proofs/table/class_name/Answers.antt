@@ -1,5 +1,5 @@
 -- `names::table::class_name` meets its contract: by which of the row's names is asked for.
-use Rattle.answer.proofs.Kit.{sym, ap, ◌∙◌, rules}
+use Rattle.answer.proofs.Kit.{sym, ap, ◌∙◌}
 use Rattle.answer.specs.Words.{packed}
 use Rattle.names.specs.Names.{table_of, name_of}
 use Rattle.names.specs.declared.table.Names.{Names}

@@ -1,5 +1,5 @@
 -- `names::table::class_note` meets its contract: the row's note, and past the last class none.
-use Rattle.answer.proofs.Kit.{sym, map, arith, get_or-eq_default, rules}
+use Rattle.answer.proofs.Kit.{sym, map, arith, get_or-eq_default}
 use Rattle.answer.specs.declared.refusal.Refusal.TheVariants.{BadClass}
 use Rattle.notes.specs.declared.note.NoteAnswer.TheVariants.{Is, Refused}
 use Rattle.names.specs.Names.{flats}

@@ -1,5 +1,5 @@
 -- `notes::note::at_height` meets its contract: six is no accidental, and any other height has its count.
-use Rattle.answer.proofs.Kit.{◌≡◌, ap, ◌∙◌, ℕ, ◌<◌, ℤ, pos, ◌-ℤ◌, rules}
+use Rattle.answer.proofs.Kit.{◌≡◌, ap, ◌∙◌, ℕ, ◌<◌, ℤ, pos, ◌-ℤ◌}
 use mir.Syntax.{w32}
 use mir.Val.{SFits, to_z, of_z}
 use mir.Facts.{to_z-of_z}
@@ -18,7 +18,6 @@ module _ (h : ℕ) (less : h < 13) where
 
   result : (h ≡ 6 → ⊥) → Count (to_z w32 (of_z w32 (to_z w32 h -ℤ pos 6))) ≡ accidental_of (lowered h)
   result other = ap Count (to_z-of_z fits ∙ minus_six) ∙ lowered_count h less other
-
 
 pub returns-then-height-eq-NATURAL : goal.returns-then-height-eq-NATURAL
 returns-then-height-eq-NATURAL c = rw c.if-height-eq-NATURAL.true

@@ -32,7 +32,6 @@ module _ (z : ℤ) (f : SFits w32 z) where
     cast : T (non_neg (held (held z +ℤ pos 6))) × Fits w32 (nat_abs (held (held z +ℤ pos 6)))
     cast = rw result (tt, record { fits = omega (arith, height_less z is_count_lem) })
 
-
 pub returns-then-count-ltminus6 : goal.returns-then-count-ltminus6
 returns-then-count-ltminus6 c = sym (below _ (rw (held_same _ c.ranges.count) at c.if-count-ltminus6.true))
 

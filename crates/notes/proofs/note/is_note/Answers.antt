@@ -1,5 +1,5 @@
 -- `notes::note::is_note` meets its contract: a count is a number that has a height.
-use Rattle.answer.proofs.Kit.{ap, ap₂, ◌∙◌, ◌&&◌, ℕ, leb-suc-suc, ltb, rules}
+use Rattle.answer.proofs.Kit.{ap, ap₂, ◌∙◌, ◌&&◌, ℕ, leb-suc-suc, ltb}
 use Rattle.notes.proofs.Moves.{in_height}
 use Rattle.notes.proofs.note.is_note.Goals as goal
 

@@ -1,5 +1,5 @@
 -- `notes::note::moved` meets its contract.
-use Rattle.answer.proofs.Kit.{ap, ◌∙◌, ℕ, ◌+◌, ◌-◌, ◌%◌, arith, rules}
+use Rattle.answer.proofs.Kit.{ap, ◌∙◌, ℕ, ◌+◌, ◌%◌, arith}
 use Rattle.notes.specs.Notes.{letter_at, spelled, get_note}
 use Rattle.notes.proofs.Moves.{letter_less}
 use Rattle.notes.proofs.note.moved.Goals as goal

@@ -1,5 +1,5 @@
 -- `notes::note::natural_semitone` meets its contract: each arm has its letter's semitone, and the last is the letter that is left.
-use Rattle.answer.proofs.Kit.{◌≡◌, arith, rules}
+use Rattle.answer.proofs.Kit.{◌≡◌, arith}
 use Rattle.notes.proofs.note.natural_semitone.Goals as goal
 
 pub returns-in_default : goal.returns-in_default

@@ -1,5 +1,5 @@
 -- `notes::note::pitch` meets its contract.
-use Rattle.answer.proofs.Kit.{ap₂, ◌∙◌, ℕ, ◌+◌, ◌%◌, arith, rules}
+use Rattle.answer.proofs.Kit.{ap₂, ◌∙◌, ℕ, ◌+◌, ◌%◌, arith}
 use Rattle.notes.proofs.Moves.{letter_less, height_is, sounds}
 use Rattle.notes.proofs.note.pitch.Goals as goal
 

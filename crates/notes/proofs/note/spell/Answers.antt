@@ -1,5 +1,5 @@
 -- `notes::note::spell` meets its contract: the tests say which height the difference has.
-use Rattle.answer.proofs.Kit.{◌≡◌, ap, sym, ◌∙◌, ℕ, ◌+◌, ◌-◌, ◌<◌, ◌≤◌, arith, pos, ◌-ℤ◌, rules, lt-ltb, le-ltb}
+use Rattle.answer.proofs.Kit.{◌≡◌, ap, sym, ◌∙◌, ℕ, ◌+◌, ◌-◌, ◌<◌, ◌≤◌, pos, ◌-ℤ◌, lt-ltb, le-ltb}
 use Rattle.notes.specs.Notes.{natural, nearest, note_of, spelled}
 use Rattle.notes.specs.declared.note.Note.{Note}
 use Rattle.notes.proofs.Counts.{lowered}
@@ -21,7 +21,6 @@ module _ (l p n : ℕ) (r : Note) (hp : p < 12) (known : (n ≡ natural l) × (n
 
   near : p + 12 - n ≤ 18 → 6 ≤ p + 12 - n → r ≡ note_of l (lowered (p + 12 - n - 6)) → r ≡ spelled l p
   near h k = at_height (p + 12 - n - 6) (simp (le-ltb _ _ h, le-ltb _ _ k))
-
 
 pub returns-then-above-gt18 : goal.returns-then-above-gt18
 returns-then-above-gt18 c = high c.args.letter c.args.pitch _ _ c.requires.1 c.natural_semitone.ensures c.if-above-gt18.true c.at_height.ensures

@@ -1,5 +1,5 @@
 -- `qualities::quality::quality` meets its contract: the test says whether the number is a set.
-use Rattle.answer.proofs.Kit.{ap, rules, lt-leb, le-leb}
+use Rattle.answer.proofs.Kit.{ap, lt-leb, le-leb}
 use Rattle.intervals.specs.Sets.{is_set}
 use Rattle.qualities.specs.Qualities.{quality_answer}
 use Rattle.qualities.specs.declared.quality.QualityAnswer.TheVariants.{Is}

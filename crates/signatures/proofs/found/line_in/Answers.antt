@@ -1,8 +1,7 @@
 -- `signatures::found::line_in` meets its contract. The loop's invariant: what is found from the byte at `i` on is what is found in the whole.
-use Rattle.answer.proofs.Kit.{◌≡◌, sym, ap, ◌∙◌, List, ◌∷◌, ⊎_elim, ℕ, suc, ◌+◌, ◌-◌, ◌≤◌, ◌<◌, add-one, arith, length, drop, get_or, drop-cons, drop-length, eq-eqb, ne_eqb}
+use Rattle.answer.proofs.Kit.{◌≡◌, sym, ap, ◌∙◌, List, ◌∷◌, ℕ, suc, ◌+◌, ◌-◌, ◌<◌, add-one, arith, length, drop, get_or, drop-cons, drop-length, eq-eqb, ne_eqb}
 use Rattle.answer.specs.Lines.{line_feed}
 use Rattle.signatures.specs.declared.found.Found.TheVariants.{At}
-use Rattle.signatures.specs.Part.{found_in}
 use Rattle.signatures.proofs.Walked.{found_from, here, next, onward, at_end, from_0}
 use Rattle.signatures.proofs.found.line_in.Goals as goal
 use Rattle.signatures.proofs.found.line_in.Goals.{then-text-i-eq-LINE_FEED+else-left-eq0, else-text-i-eq-LINE_FEED}
@@ -21,7 +20,6 @@ module _ (text : List ℕ) (start i : ℕ) (h : i < length text) where
   goes_on : (left : ℕ) → (get_or text i 0 ≡ line_feed → ⊥) → found_from start i (drop i text) left ≡ found_from start (i + 1) (drop (i + 1) text) left
   goes_on left other = ap (λ (l : List ℕ). found_from start i l left) turn ∙ onward start i _ _ left (ne_eqb _ _ other)
 
-
 pub loop-i-init : goal.loop-i-init
 loop-i-init c = (omega arith, omega arith, from_0 _ _)
 
@@ -36,18 +34,19 @@ returns-then-left-eq0 c = let text = c.args.text.now in
 pub loop-i-preserved : goal.loop-i-preserved
 loop-i-preserved c = let text = c.args.text.now in
     elim c.if-text-i-eq-LINE_FEED.branch [
-      then-text-i-eq-LINE_FEED+else-left-eq0 w ↦
-        let some : suc (c.loop-i.left - 1) ≡ c.loop-i.left = omega (arith, w.if-left-eq0.false) in (
-          omega (arith, w.start-is),
-          omega arith,
-          rw (w.start-is, w.left-is) (sym (passes text c.loop-i.start c.loop-i.i (omega arith) (c.loop-i.left - 1) w.if-text-i-eq-LINE_FEED.true)
-              ∙ ap (found_from c.loop-i.start c.loop-i.i (drop c.loop-i.i text)) some ∙ c.loop-i.invariant.2),
-        )
-    | else-text-i-eq-LINE_FEED w ↦ (
+      | then-text-i-eq-LINE_FEED+else-left-eq0 w ↦
+          let some : suc (c.loop-i.left - 1) ≡ c.loop-i.left = omega (arith, w.if-left-eq0.false) in (
+            omega (arith, w.start-is),
+            omega arith,
+            rw (w.start-is, w.left-is) (sym (passes text c.loop-i.start c.loop-i.i (omega arith) (c.loop-i.left - 1) w.if-text-i-eq-LINE_FEED.true)
+                ∙ ap (found_from c.loop-i.start c.loop-i.i (drop c.loop-i.i text)) some ∙ c.loop-i.invariant.2),
+          )
+      | else-text-i-eq-LINE_FEED w ↦ (
         omega (arith, w.start-is),
         omega arith,
         rw (w.start-is, w.left-is) (sym (goes_on text c.loop-i.start c.loop-i.i (omega arith) c.loop-i.left w.if-text-i-eq-LINE_FEED.false) ∙ c.loop-i.invariant.2),
-      ) ]
+      )
+    ]
 
 pub returns : goal.returns
 returns c = let text = c.args.text.now in

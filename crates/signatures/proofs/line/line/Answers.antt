@@ -1,5 +1,5 @@
 -- `signatures::line::line` meets its contract: the part lies in the listing that it is taken of.
-use Rattle.answer.proofs.Kit.{◌≡◌, refl, ap, ap₂, subst, ◌∙◌, List, ℕ, ◌+◌, ◌-◌, ◌≤◌, ◌<◌, ◌^◌, add_comm, arith, length, take, drop, Bor, rules}
+use Rattle.answer.proofs.Kit.{◌≡◌, refl, ap, ap₂, subst, ◌∙◌, List, ℕ, ◌+◌, ◌-◌, ◌≤◌, ◌<◌, ◌^◌, add_comm, arith, length, take, drop, Bor}
 use mir.Facts.{to_z-of_z}
 use Rattle.names.specs.declared.table.Names.{Names}
 use Rattle.names.specs.declared.table.Names.TheVariants.{Flats, Sharps}
@@ -27,7 +27,6 @@ module _ (part told : Part) (is : part ≡ told) (flat sharp listing : Bor (List
         place = place ∙ ap (λ (l : Bor (List ℕ)). (l.ref_ptr.0, part.start + l.ref_ptr.1)) chosen ∙ ap (λ (n : ℕ). ((listing_in part.names flat sharp).ref_ptr.0, n)) (add_comm part.start _);
         bytes = bytes ∙ ap₂ (λ (k : ℕ) (l : Bor (List ℕ)). take k (drop part.start l.now)) many chosen;
       }
-
 
 -- what was called for, as the contract has it
 called : (c : After-line_part-part)

@@ -1,5 +1,5 @@
 -- `signatures::line::line_part` meets its contract: by the names that the key calls for.
-use Rattle.answer.proofs.Kit.{◌≡◌, sym, ap, ◌∙◌, List, ℕ, ℤ, length, Bor, rules}
+use Rattle.answer.proofs.Kit.{◌≡◌, sym, ap, ◌∙◌, List, ℕ, ℤ, length, Bor}
 use mir.Facts.{to_z-of_z}
 use Rattle.names.specs.declared.table.Names.{Names}
 use Rattle.signatures.specs.declared.found.Found.{Found}
@@ -20,7 +20,6 @@ module _ (flat sharp : Bor (List ℕ)) (number : ℕ) (fifths : ℤ) where
       → part_at names (length flat.now) found ≡ part_of flat.now sharp.now number fifths
   in_names names listing found called is at =
       ap (part_at names (length flat.now)) (at ∙ ap (λ (t : List ℕ). found_in t number) (ap (λ (r : Bor (List ℕ)). r.now) is ∙ its_bytes names flat sharp)) ∙ in_key (For names) called
-
 
 pub returns-in-Nothing : goal.returns-in-Nothing
 returns-in-Nothing c = c.part_at.ensures ∙ in_key c.args.flat c.args.sharp _ _ Nothing (rw (to_z-of_z c.ranges.fifths) at (sym c.names_in.ensures ∙ c.in-Nothing.is))

@@ -1,5 +1,5 @@
 -- `signatures::line::listing_in` meets its contract.
-use Rattle.answer.proofs.Kit.{refl, rules}
+use Rattle.answer.proofs.Kit.{refl}
 use Rattle.signatures.proofs.line.listing_in.Goals as goal
 
 pub returns-in-Flats : goal.returns-in-Flats

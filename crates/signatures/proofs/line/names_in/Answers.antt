@@ -29,7 +29,6 @@ module _ (z : ℤ) (f : SFits w32 z) where
       ap (λ (x : Bool). For (cond x Sharps Flats)) (sym (rw (to_z-of_z f) at is))
       ∙ by_range true (inside (neg_ℤ (pos 7)) (pos 7) z (rw (to_z-of_z f) at low) (rw (to_z-of_z f) at high))
 
-
 pub returns-then-fifths-lt-MOST_FLATS : goal.returns-then-fifths-lt-MOST_FLATS
 returns-then-fifths-lt-MOST_FLATS c = too_low _ c.ranges.fifths c.if-fifths-lt-MOST_FLATS.true
 

@@ -1,5 +1,5 @@
 -- `signatures::line::part_at` meets its contract: by what was found.
-use Rattle.answer.proofs.Kit.{sym, ap, rules}
+use Rattle.answer.proofs.Kit.{sym, ap}
 use Rattle.signatures.specs.Part.{part_at}
 use Rattle.signatures.proofs.line.part_at.Goals as goal
 

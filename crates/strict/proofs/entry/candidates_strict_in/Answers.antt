@@ -1,5 +1,5 @@
 -- `strict::entry::candidates_strict_in` meets its contract: by what the check says.
-use Rattle.answer.proofs.Kit.{sym, subst, ◌∙◌, rules}
+use Rattle.answer.proofs.Kit.{sym, subst, ◌∙◌}
 use Rattle.answer.specs.Replies.{Reply, Answered}
 use Rattle.answer.proofs.Rooms.{refused_by}
 use Rattle.strict.proofs.FirstAbove.{replied}

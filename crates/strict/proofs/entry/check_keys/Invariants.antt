@@ -1,9 +1,7 @@
 -- `strict::entry::check_keys` meets its contract. The loop's invariant: what is refused of the codes that are left is what is refused of all.
-use Rattle.answer.proofs.Kit.{◌≡◌, sym, ap, ◌∙◌, List, ◌∷◌, ℕ, ◌+◌, ◌-◌, ◌≤◌, ◌<◌, add-one, arith, length, drop, get_or, drop-cons, drop-length, lt-leb, le-leb}
-use Rattle.answer.proofs.FirstRefused.{refused_from, here, onward, from_0, at_end}
+use Rattle.answer.proofs.Kit.{◌≡◌, List, ℕ, ◌-◌, ◌≤◌, length, drop}
+use Rattle.answer.proofs.FirstRefused.{refused_from}
 use Rattle.answer.specs.declared.refusal.Checked.{Checked}
-use Rattle.answer.specs.declared.refusal.Checked.TheVariants.{Passed, Refused}
-use Rattle.answer.specs.declared.refusal.Refusal.TheVariants.{NotAKey}
 use Rattle.strict.specs.Strict.{is_no_key, not_akey, keys_checked}
 use Rattle.strict.proofs.entry.check_keys.Given as goal
 

@@ -1,5 +1,4 @@
 -- `qualities::interval::Interval::about` meets its contract: each arm has the row of its interval.
-use Rattle.answer.proofs.Kit.{rules}
 use Rattle.answer.specs.Words.{bytes, low, packed}
 use Rattle.intervals.specs.declared.interval.Interval.TheVariants.{Unison, MinorSecond, MajorSecond, MinorThird, MajorThird, PerfectFourth, AugmentedFourth, DiminishedFifth, PerfectFifth, AugmentedFifth, MinorSixth, MajorSixth, DiminishedSeventh, MinorSeventh, MajorSeventh, Octave, FlatNinth, Ninth, SharpNinth, Eleventh, SharpEleventh, FlatThirteenth, Thirteenth}
 use Rattle.intervals.proofs.Rows.{row_tells}

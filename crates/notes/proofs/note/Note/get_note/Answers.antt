@@ -1,5 +1,5 @@
 -- `notes::note::Note::get_note` meets its contract: the tests say which case of its answer holds.
-use Rattle.answer.proofs.Kit.{ap, ◌<◌, arith, rules, le-leb, lt-leb}
+use Rattle.answer.proofs.Kit.{ap, ◌<◌, arith, le-leb, lt-leb}
 use Rattle.answer.proofs.Tests.{refused, admitted}
 use Rattle.notes.specs.Notes.{get_note_answer}
 use Rattle.notes.specs.declared.note.NoteAnswer.TheVariants.{Is}

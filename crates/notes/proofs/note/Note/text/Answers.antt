@@ -1,5 +1,5 @@
 -- `notes::note::Note::text` meets its contract: the note's word fills a buffer of eight bytes from the front, and its text is given.
-use Rattle.answer.proofs.Kit.{◌≡◌, ap, sym, ◌∙◌, true, List, ℕ, arith, length, take, length-take, rules}
+use Rattle.answer.proofs.Kit.{◌≡◌, ap, sym, ◌∙◌, true, arith, length, take, length-take, rules}
 use Rattle.answer.specs.Words.{packed}
 use Rattle.answer.proofs.Rooms.{refused as no}
 use Rattle.answer.proofs.Digits.{put_first}

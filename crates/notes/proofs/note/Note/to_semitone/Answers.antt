@@ -1,5 +1,5 @@
 -- `notes::note::Note::to_semitone` meets its contract.
-use Rattle.answer.proofs.Kit.{ap, rules}
+use Rattle.answer.proofs.Kit.{ap}
 use Rattle.answer.proofs.Tests.{refused, admitted}
 use Rattle.notes.specs.Notes.{semitone_answer}
 use Rattle.notes.specs.declared.note.SemitoneAnswer.TheVariants.{Is}

@@ -1,5 +1,5 @@
 -- `notes::note::Note::to_word` meets its contract: the letter's byte, and the signs of its height behind it.
-use Rattle.answer.proofs.Kit.{ap, ap₂, sym, ◌∙◌, ◌∷◌, ◌+◌, arith, ℤ, rules}
+use Rattle.answer.proofs.Kit.{ap, ap₂, sym, ◌∙◌, ◌∷◌, ◌+◌, ℤ}
 use Rattle.answer.specs.Words.{packed}
 use Rattle.answer.proofs.Digits.{packed_cons}
 use Rattle.answer.proofs.Tests.{refused, admitted}

@@ -1,5 +1,5 @@
 -- `notes::note::Note::transpose` meets its contract: the tests say whether all three are notes.
-use Rattle.answer.proofs.Kit.{◌≡◌, ap, ap₂, ◌∙◌, true, ℕ, ◌+◌, ◌-◌, ◌%◌, ◌<◌, arith, rules}
+use Rattle.answer.proofs.Kit.{◌≡◌, ap, ap₂, ◌∙◌, true, ℕ, ◌+◌, ◌-◌, ◌%◌, ◌<◌, arith}
 use Rattle.answer.proofs.Tests.{refused, admitted}
 use Rattle.notes.specs.Notes.{is_note, get_note, transposed, transpose_answer}
 use Rattle.notes.specs.declared.note.NoteAnswer.TheVariants.{Is}

@@ -1,5 +1,4 @@
 -- `qualities::quality::ChordQuality::about` meets its contract: each arm has the row of its quality.
-use Rattle.answer.proofs.Kit.{rules}
 use Rattle.qualities.specs.declared.quality.ChordQuality.TheVariants.{Maj, Maj6, Maj7, Dominant7, Mi, Mi6, Mi7, MiMaj7, Augmented, Diminished, Diminished7, Power, Bass}
 use Rattle.qualities.proofs.Rows.{row_tells}
 use Rattle.qualities.proofs.quality.ChordQuality.about.Goals as goal
