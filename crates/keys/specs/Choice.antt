@@ -1,7 +1,7 @@
 -- How a key is chosen among tones: paper 01, "Voicing (001)". The lead, the guides and the tensions are each chosen by nearness to a
 -- key: the lead by the one wanted, guides ("lowest first") by 0, tensions ("highest first", below the lead) by the lead.
 use Rattle.std.specs.Prelude.{cond, ◌&&◌, ◌||◌, List, [], ◌∷◌, ◌++◌, map, ℕ, zero, suc, ◌+◌, ◌-◌, eqb, leb, ltb, length}
-use Rattle.std.proofs.Math.Option.{Option, none, some, Option_elim}
+use Rattle.std.proofs.Math.Option.{Option, none, some, Option-elim}
 use Rattle.intervals.specs.Sets.{has, without}
 use Rattle.pool.specs.declared.pool.Tone.{Tone}
 
@@ -66,7 +66,7 @@ module _ (lowest limit wanted : ℕ) where
   unfoldable pub placed_in : ℕ → List Tone → List ℕ
   placed_in zero tones = []
   placed_in (suc n) tones =
-      Option_elim (nearest wanted (keys_of_tones lowest limit tones)) [] (λ (k : ToneKey). k.key ∷ placed_in n (other_tones k.interval tones))
+      Option-elim (nearest wanted (keys_of_tones lowest limit tones)) [] (λ (k : ToneKey). k.key ∷ placed_in n (other_tones k.interval tones))
 
   -- in as many turns as there are tones: each takes at least one away
   unfoldable pub placed : List Tone → List ℕ

@@ -1,6 +1,6 @@
 -- The lead: paper 01, "Voicing (001)".
 use Rattle.std.specs.Prelude.{Bool, cond, ◌||◌, List, [], ◌∷◌, ℕ, eqb}
-use Rattle.std.proofs.Math.Option.{Option_elim}
+use Rattle.std.proofs.Math.Option.{Option-elim}
 use Rattle.intervals.specs.Sets.{is_in, without}
 use Rattle.intervals.specs.Intervals.{intervals, set_of}
 use Rattle.pool.specs.declared.pool.Tone.{Tone}
@@ -41,4 +41,4 @@ without_last lowest limit key (t ∷ more) =
 -- "The nearest key of an unbarred tone wins, earliest on a tie; none gives 0"
 unfoldable pub lead_of : ℕ → ℕ → ℕ → List Tone → ℕ
 lead_of lowest limit wanted pool =
-    Option_elim (nearest wanted (keys_of_tones lowest limit (chosen (unbarred pool) 0 pool))) 0 (λ (k : ToneKey). k.key)
+    Option-elim (nearest wanted (keys_of_tones lowest limit (chosen (unbarred pool) 0 pool))) 0 (λ (k : ToneKey). k.key)

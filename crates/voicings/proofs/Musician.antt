@@ -13,7 +13,6 @@ use Rattle.answer.proofs.Tests.{said}
 use Rattle.answer.specs.declared.refusal.Checked.TheVariants.{Passed}
 use Rattle.intervals.specs.Bass.{is_bass}
 use Rattle.intervals.specs.declared.bass.Bass.{Bass}
-use Rattle.intervals.specs.declared.bass.Bass.TheVariants as Bass
 use Rattle.pool.specs.declared.pool.Tone.{Tone}
 use Rattle.pool.specs.Pool.{tones_of}
 use Rattle.pool.specs.Order.{sorted}

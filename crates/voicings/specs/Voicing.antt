@@ -6,10 +6,8 @@ use Rattle.answer.specs.declared.refusal.Checked.TheVariants.{Passed, Refused}
 use Rattle.answer.specs.declared.refusal.Refusal.TheVariants.{BadClass, BadRange}
 use Rattle.intervals.specs.Bass.{is_bass}
 use Rattle.intervals.specs.declared.bass.Bass.{Bass}
-use Rattle.intervals.specs.declared.bass.Bass.TheVariants as Bass
 use Rattle.pool.specs.declared.pool.Tone.{Tone}
 use Rattle.voicings.specs.declared.voicing.Lead.{Lead}
-use Rattle.voicings.specs.declared.voicing.Lead.TheVariants as Lead
 use Rattle.voicings.specs.declared.voicing.Chord.{Chord}
 use Rattle.pool.specs.Pool.{tones_of}
 use Rattle.pool.specs.Order.{sorted}

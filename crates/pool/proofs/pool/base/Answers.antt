@@ -1,5 +1,5 @@
 -- `pool::pool::base` meets its contract: by what the number names.
-use Rattle.answer.proofs.Kit.{sym, ap, ◌∙◌, ℕ, ◌%◌, rules}
+use Rattle.answer.proofs.Kit.{sym, ap, ◌∙◌, ℕ, ◌%◌}
 use Rattle.pool.specs.Pool.{base_named}
 use Rattle.pool.proofs.pool.base.Goals as goal
 

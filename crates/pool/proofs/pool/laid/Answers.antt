@@ -1,5 +1,5 @@
 -- `pool::pool::laid` meets its contract. The loop's invariant: the tones so far, with those of the pairs left, are all, and blanks are left.
-use Rattle.answer.proofs.Kit.{◌≡◌, refl, sym, ap, ap₂, ◌∙◌, List, ◌++◌, append-nil, ℕ, ◌+◌, ◌-◌, ◌≤◌, ◌<◌, arith, length, take, drop, get_or, set, length-set, take-append-drop, slice, drop-drop, drop-set-lt, rules}
+use Rattle.answer.proofs.Kit.{◌≡◌, refl, sym, ap, ap₂, ◌∙◌, List, ◌++◌, append-nil, ℕ, ◌+◌, ◌≤◌, ◌<◌, arith, length, take, drop, get_or, set, length-set, take-append-drop, slice, drop-drop, drop-set-lt}
 use Rattle.pool.specs.declared.pool.Tone.{Tone}
 use Rattle.pool.specs.Pool.{tone_of, tones_of}
 use Rattle.pool.specs.private.Places.{blanks}

@@ -1,9 +1,7 @@
 -- `pool::pool::laid` meets its contract. The loop's invariant: the tones so far, with those of the pairs left, are all, and blanks are left.
-use Rattle.answer.proofs.Kit.{◌≡◌, refl, sym, ap, ap₂, ◌∙◌, List, ◌++◌, append-nil, ℕ, ◌+◌, ◌-◌, ◌≤◌, ◌<◌, arith, length, take, drop, get_or, set, length-set, take-append-drop, slice, drop-drop, drop-set-lt, rules}
-use Rattle.pool.specs.declared.pool.Tone.{Tone}
-use Rattle.pool.specs.Pool.{tone_of, tones_of}
+use Rattle.answer.proofs.Kit.{◌≡◌, ◌++◌, ◌-◌, ◌≤◌, length, take, drop, slice}
+use Rattle.pool.specs.Pool.{tones_of}
 use Rattle.pool.specs.private.Places.{blanks}
-use Rattle.pool.proofs.Left.{next, none, pushed}
 use Rattle.pool.proofs.pool.laid.Given as goal
 
 abbrev pub invariant-loop-i : goal.invariant-loop-i

@@ -1,10 +1,10 @@
 -- `pool::pool::notes_pool` meets its contract: as many pairs as fit are laid out.
-use Rattle.answer.proofs.Kit.{◌≡◌, ◌∙◌, List, ⊎_elim, ℕ, arith, length, take, rules}
+use Rattle.answer.proofs.Kit.{◌≡◌, ◌∙◌, List, ℕ, arith, length, take}
 use Rattle.pool.specs.Pool.{tones_of}
 use Rattle.pool.proofs.Pairs.{few_classes, few_intervals}
 use Rattle.pool.proofs.Pooled.{fitting, taken_few, pooled}
 use Rattle.pool.proofs.pool.notes_pool.Goals as goal
-use Rattle.pool.proofs.pool.notes_pool.Goals.{Joined-pairs-lt-MOST}
+use Rattle.pool.proofs.pool.notes_pool.Goals.{Joined-pairs-lt-MOST, then-pairs-lt-MOST, else-pairs-lt-MOST}
 
 module _ (c : Joined-pairs-lt-MOST) where
   abbrev classes : List ℕ
@@ -16,8 +16,10 @@ module _ (c : Joined-pairs-lt-MOST) where
   fit : c.if-pairs-lt-MOST.count ≡ length (take 16 (tones_of classes intervals))
   fit =
       let told = fitting (tones_of classes intervals) _ c.used-pairs.ensures in
-      ⊎_elim (λ w. w.1 ∙ told.0 w.0.taken) (λ w. w.1 ∙ told.1 w.0.left) c.if-pairs-lt-MOST.branch
-
+      elim c.if-pairs-lt-MOST.branch [
+        | then-pairs-lt-MOST w ↦ w.count-is ∙ told.0 w.if-pairs-lt-MOST.true
+        | else-pairs-lt-MOST w ↦ w.count-is ∙ told.1 w.if-pairs-lt-MOST.false
+      ]
 
 pub laid-requires : goal.laid-requires
 laid-requires c = let few = taken_few 16 (tones_of (classes (goal.at.laid-requires c).Joined-pairs-lt-MOST) (intervals (goal.at.laid-requires c).Joined-pairs-lt-MOST)) in

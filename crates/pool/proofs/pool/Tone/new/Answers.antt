@@ -1,5 +1,4 @@
 -- `pool::pool::Tone::new` meets its contract: with its base.
-use Rattle.answer.proofs.Kit.{rules}
 use Rattle.pool.proofs.pool.Tone.new.Goals as goal
 
 pub returns : goal.returns

@@ -1,10 +1,9 @@
 -- `voicings::guides::tension_once` meets its contract: by what the pool holds, and whether it is small or very small.
-use Rattle.answer.proofs.Kit.{◌≡◌, refl, Bool, true, false, not, cond, ◌&&◌, [], ◌∷◌, ◌++◌, ◌+◌, ◌*◌, ◌%◌, ltb, rules}
+use Rattle.answer.proofs.Kit.{◌≡◌, refl, Bool, true, false, not, cond, ◌&&◌, [], ◌∷◌, ◌++◌, ◌+◌, ◌*◌, ◌%◌, ltb}
 use mir.Val.{bool_byte}
 use Rattle.intervals.specs.Intervals.{set_of}
 use Rattle.intervals.specs.declared.interval.Interval.TheVariants.{Unison, DiminishedFifth, PerfectFifth, MajorSixth, MajorSeventh}
-use Rattle.voicings.proofs.guides.tension_once.Statement.{statement}
-use Rattle.voicings.proofs.guides.tension_once.Tie as tie
+use Rattle.voicings.proofs.guides.tension_once.Goals as goal
 
 -- the sum of the code, by the four tests that it makes
 sum : (small very sixth seventh : Bool)
@@ -27,8 +26,5 @@ sum false false true true = refl
 sum false false true false = refl
 sum false false false b = refl
 
-pub tension_once_spec : {M : Type 1} → statement M
-tension_once_spec = tie.close (tie.spec
-    (λ c. search rules) (λ c. search rules) (λ c. search rules) (λ c. search rules) (λ c. search rules) (λ c. search rules) (λ c. search rules)
-    (λ c. search rules) (λ c. search rules) (λ c. search rules) (λ c. search rules) (λ c. search rules)
-    (λ c. sum (ltb c.args.count 6) (ltb c.args.count 3) c.args.sixth c.args.seventh))
+pub returns : goal.returns
+returns c = sum (ltb c.args.count 6) (ltb c.args.count 3) c.args.sixth c.args.seventh

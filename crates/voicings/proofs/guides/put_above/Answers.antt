@@ -1,5 +1,5 @@
 -- `voicings::guides::put_above` meets its contract: guides, tensions and lead stand behind one another.
-use Rattle.answer.proofs.Kit.{◌≡◌, sym, ap, ap₂, ◌∙◌, Bool, List, [], ◌∷◌, ℕ, ◌+◌, ◌≤◌, ◌<◌, arith, length, length-set, rules}
+use Rattle.answer.proofs.Kit.{◌≡◌, sym, ap, ap₂, ◌∙◌, Bool, List, [], ◌∷◌, ℕ, ◌+◌, ◌≤◌, arith, length}
 use Rattle.answer.specs.Written.{Writes}
 use Rattle.answer.proofs.Writing.{also, same_text, stored}
 use Rattle.intervals.specs.Intervals.{set_of}
@@ -11,8 +11,8 @@ use Rattle.keys.specs.Choice.{chosen, placed}
 use Rattle.voicings.specs.Guides.{holds_any, sixths, sevenths, guides, tensions, guide_once, tension_once, guide_keys, tension_keys}
 use Rattle.voicings.specs.Voicing.{above_bass}
 use Rattle.voicings.proofs.Few.{few_of}
-use Rattle.voicings.proofs.guides.put_above.Statement.{statement}
-use Rattle.voicings.proofs.guides.put_above.Tie as tie
+use Rattle.voicings.proofs.guides.put_above.Goals as goal
+use Rattle.voicings.proofs.guides.put_above.Goals.{After-put_placed-guided, After-put_placed-tensed}
 
 -- what is placed, by what the code found, is the guides of a pool, and its tensions
 module _ (lowest : ℕ) (pool : List Tone) (once : ℕ) (sixth seventh : Bool) (six : sixth ≡ holds_any sixths pool) (seven : seventh ≡ holds_any sevenths pool) where
@@ -35,51 +35,37 @@ few_placed lowest limit wanted whole once pool is = omega (arith, few_of lowest 
 reaches : {l l' t : List ℕ} {place r : ℕ} → Writes l place t r l' → length t ≤ 16 → r ≤ place + 16
 reaches w h = omega (arith, w.place)
 
-module _ (c : tie.After-put-placed) where
-  abbrev start : tie.Start
-  start = c.before.before.before.before.before.before
+guided : (c : After-put_placed-guided) → c.put_placed-guided.result ≤ c.args.place + 16
+guided c = reaches c.put_placed-guided.ensures (few_placed _ _ _ _ _ c.args.led.left c.requires.0)
 
-  guided : c.put-placed.result ≤ start.args.place + 16
-  guided = reaches c.put-placed.ensures (few_placed _ _ _ _ _ start.args.led.left start.pre.0)
+tensed : (c : After-put_placed-tensed) → c.put_placed-tensed.result ≤ c.put_placed-guided.result + 16
+tensed c = reaches c.put_placed-tensed.ensures (few_placed _ _ _ _ _ c.args.led.left c.requires.0)
 
-module _ (c : tie.After-put-placed2) where
-  abbrev guides_put : tie.After-put-placed
-  guides_put = c.before.before.before.before.before
+pub put_placed-guided-requires : goal.put_placed-guided-requires
+put_placed-guided-requires c = (c.requires.0, omega (arith, c.requires.1))
 
-  tensed : c.put-placed2.result ≤ guides_put.put-placed.result + 16
-  tensed = reaches c.put-placed2.ensures (few_placed _ _ _ _ _ (start guides_put).args.led.left (start guides_put).pre.0)
+pub put_placed-tensed-requires : goal.put_placed-tensed-requires
+put_placed-tensed-requires c =
+    let g = guided (goal.at.put_placed-tensed-requires c).After-put_placed-guided in
+    (c.requires.0, omega (arith, g, c.put_placed-guided.auto.buffer, c.requires.1))
 
 -- the lead has room behind them
-within : (c : tie.After-slice-known3) → c.before.before.put-placed2.result < length c.before.before.put-placed2.new.0
-within c =
-    let t = c.before.before in
-    let g = guides_put t in
-    omega (arith, tensed t, guided g, t.put-placed2.auto.0, g.put-placed.kept.0, (start g).pre.1)
+pub bounds-buffer-tensed : goal.bounds-buffer-tensed
+bounds-buffer-tensed c =
+    let g = guided (goal.at.bounds-buffer-tensed c).After-put_placed-guided in
+    let t = tensed (goal.at.bounds-buffer-tensed c).After-put_placed-tensed in
+    omega (arith, g, t, c.put_placed-tensed.auto.buffer, c.put_placed-guided.auto.buffer, c.requires.1)
 
-returns : tie.Need-returns
+pub returns : goal.returns
 unfolding above_bass guides tensions set_of
 returns c =
-    let t = c.before.before in
-    let g = guides_put t in
-    let s = start g in
-    let a = s.args in
-    let found = g.before.before.before.look-for in
+    let a = c.args in
+    let found = c.look_for-present in
     let pool = tones_in a.led.left in
+    let g = guided (goal.at.returns c).After-put_placed-guided in
+    let t = tensed (goal.at.returns c).After-put_placed-tensed in
     also
     (also
-    (same_text (guide_keys_lem a.lowest pool _ _ _ found.ensures.0 found.ensures.1 a.limit g.before.before.guide-once.ensures) g.put-placed.ensures)
-    (same_text (tension_keys_lem a.lowest pool _ _ _ found.ensures.0 found.ensures.1 a.led.key _ (sym (pool_size a.led.left s.pre.0)) t.before.before.tension-once.ensures) t.put-placed2.ensures))
-    (stored (a.led.key ∷ []) t.put-placed2.new.0 t.put-placed2.result (omega (arith, within c)))
-
-pub put_above_spec : {M : Type 1} → statement M
-put_above_spec = tie.close (tie.spec
-    (λ c κs. search rules) (λ c κs. search rules)
-    (λ c κs. let s = c.before.before.before.before.before in (s.requires.0, omega (arith, s.requires.1)))
-    (λ c κs. search rules)
-    (λ c κs. let g = c.before.before.before.before in ((start g).requires.0, omega (arith, guided g, g.put-placed.auto.0, (start g).requires.1)))
-    within
-    (λ c. omega (arith, within c))
-    (λ c. let t = c.before.before in
-    length-set t.put-placed2.new.0 t.put-placed2.result (start (guides_put t)).args.led.key
-    ∙ t.put-placed2.auto.0 ∙ (guides_put t).put-placed.auto.0)
-    returns)
+    (same_text (guide_keys_lem a.lowest pool _ _ _ found.ensures.0 found.ensures.1 a.limit c.guide_once-guides.ensures) c.put_placed-guided.ensures)
+    (same_text (tension_keys_lem a.lowest pool _ _ _ found.ensures.0 found.ensures.1 a.led.key _ (sym (pool_size a.led.left c.requires.0)) c.tension_once-tensions.ensures) c.put_placed-tensed.ensures))
+    (stored (a.led.key ∷ []) c.put_placed-tensed.new.buffer c.put_placed-tensed.result (omega (arith, g, t, c.put_placed-tensed.auto.buffer, c.put_placed-guided.auto.buffer, c.requires.1)))

@@ -5,18 +5,9 @@ use Rattle.pool.specs.declared.pool.Tone.{Tone}
 use Rattle.pool.specs.declared.pool.Pool.{Pool}
 use Rattle.pool.specs.private.Places.{laid_over, tones_in}
 use Rattle.pool.proofs.Pooled.{pool_size, pool_whole}
-use Rattle.leads.specs.private.Leaves.{without_at}
 use Rattle.pool.proofs.Left.{next, none, pushed, behind}
 use Rattle.leads.proofs.Removed.{split, past_last}
-use Rattle.leads.proofs.lead.remove.Statement.{statement}
-use Rattle.leads.proofs.lead.remove.Tie as tie
-
-abbrev invariant-loop : tie.invariant-loop
-invariant-loop place count tones₀ last i₀ tones i =
-    (place ≤ i) × (i ≤ last) × (length tones ≡ 16) × (drop i tones ≡ drop i tones₀) × (take i tones ++ slice (i + 1) count tones ≡ without_at place (take count tones₀))
-
-abbrev decreases-loop : tie.decreases-loop
-decreases-loop place count tones₀ last i₀ tones i = last - i
+use Rattle.leads.proofs.lead.remove.Goals as goal
 
 -- a store leaves what stands behind it
 kept : (l run : List Tone) (i : ℕ) (t : Tone) → drop i l ≡ drop i run → drop (i + 1) (set l i t) ≡ drop (i + 1) run
@@ -30,17 +21,6 @@ moved d l i n h k =
     ∙ ap (λ (x : List Tone). take i l ++ (get_or l (i + 1) d ∷ x)) (behind l (i + 1 + 1) n i (get_or l (i + 1) d) (omega arith) (omega arith))
     ∙ ap (λ (x : List Tone). take i l ++ x) (sym (next l (i + 1) n d h k))
 
-returns : tie.Need-returns invariant-loop decreases-loop
-returns c =
-    let pool = c.before.args.pool in
-    pool_whole pool c.before.requires ∙ ap (λ (l : List Tone). laid_over l pool.tones) (sym (past_last (tones_in pool) c.before.args.place (omega (arith, pool_size pool c.before.requires, c.if1.true))))
-
-loop-again : tie.Need-loop-preserved invariant-loop decreases-loop
-loop-again c =
-    let l = c.before.before.loop in
-    let s = c.before.before.before.before.before in
-    (omega arith, omega arith, simp length-set l.invariant.2, kept l.tones s.args.pool.tones l.i _ l.invariant.3, moved _ l.tones l.i s.args.pool.count (omega arith) (omega arith) ∙ l.invariant.4)
-
 -- so many at the front of a run that is another's from there on
 laid : (l run w : List Tone) (n : ℕ) → length l ≡ 16 → n ≤ 16 → take n l ≡ w → drop n l ≡ drop n run → ◌≡◌ {A = Pool} record { tones = l; count = n } (laid_over w run)
 laid l run w n size h e f =
@@ -48,10 +28,20 @@ laid l run w n size h e f =
     ap (λ (t : List Tone). record { tones = t; count = n }) (sym (take-append-drop n l) ∙ ap₂ ◌++◌ e f)
     ∙ ap (λ (k : ℕ). record { tones = w ++ drop k run; count = k }) (sym long)
 
-returns-2 : tie.Need-returns-2 invariant-loop decreases-loop
-returns-2 c =
-    let l = c.before.loop in
-    let pool = c.before.before.before.before.args.pool in
+pub returns-then-place-count : goal.returns-then-place-count
+returns-then-place-count c = let pool = c.args.pool in
+    pool_whole pool c.requires ∙ ap (λ (l : List Tone). laid_over l pool.tones) (sym (past_last (tones_in pool) c.args.place (omega (arith, pool_size pool c.requires, c.if-place-count.true))))
+
+pub loop-i-init : goal.loop-i-init
+loop-i-init c = (omega arith, omega arith, c.requires.places, refl, split c.args.pool.tones c.args.place c.args.pool.count (omega arith))
+
+pub loop-i-preserved : goal.loop-i-preserved
+loop-i-preserved c = let l = c.loop-i in
+    (omega arith, omega arith, simp length-set l.invariant.2, kept l.tones c.args.pool.tones l.i _ l.invariant.3, moved _ l.tones l.i c.args.pool.count (omega arith) (omega arith) ∙ l.invariant.4)
+
+pub returns : goal.returns
+returns c = let l = c.loop-i in
+    let pool = c.args.pool in
     let last = pool.count - 1 in
     let end : last ≡ l.i = omega arith in
     let no_more = none l.tones (l.i + 1) pool.count (omega arith) (omega arith) in
@@ -60,20 +50,3 @@ returns-2 c =
     ∙ sym (ap (λ (x : List Tone). take l.i l.tones ++ x) no_more ∙ append-nil (take l.i l.tones))
     ∙ l.invariant.4)
     (ap (λ (n : ℕ). drop n l.tones) end ∙ l.invariant.3 ∙ ap (λ (n : ℕ). drop n pool.tones) (sym end))
-
-pub remove_spec : {M : Type 1} → statement M
-remove_spec = tie.close (tie.spec
-    invariant-loop
-    decreases-loop
-    returns
-    (λ c. omega arith)
-    (λ c. (omega arith, omega arith, c.before.before.requires.places, refl, split c.before.before.args.pool.tones c.before.before.args.place c.before.before.args.pool.count (omega arith)))
-    (λ c. omega arith)
-    (λ c. omega arith)
-    (λ c. omega arith)
-    (λ c. omega arith)
-    (λ c. omega arith)
-    (λ c. omega arith)
-    (λ c. omega arith)
-    loop-again
-    returns-2)

@@ -1,5 +1,5 @@
 -- `leads::lead::nearest_lead` meets its contract: the lead of the ordered pool, and what it leaves.
-use Rattle.answer.proofs.Kit.{◌≡◌, sym, ap, ap₂, subst, ◌∙◌, List, ℕ, take, rules}
+use Rattle.answer.proofs.Kit.{◌≡◌, sym, ap, ap₂, subst, ◌∙◌, List, ℕ, take}
 use Rattle.pool.specs.declared.pool.Tone.{Tone}
 use Rattle.pool.specs.declared.pool.Pool.{Pool}
 use Rattle.pool.specs.Pool.{tones_of}
@@ -9,8 +9,7 @@ use Rattle.pool.proofs.Pooled.{pool_is, ordered_tones}
 use Rattle.leads.specs.declared.lead.Led.{Led}
 use Rattle.leads.specs.Lead.{without_last, lead_of}
 use Rattle.leads.specs.private.Leaves.{led_of}
-use Rattle.leads.proofs.lead.nearest_lead.Statement.{statement}
-use Rattle.leads.proofs.lead.nearest_lead.Tie as tie
+use Rattle.leads.proofs.lead.nearest_lead.Goals as goal
 
 module _ (l : List Tone) (pool : Pool) (e : pool ≡ pool_of (sorted (take 16 l))) where
   is_pool : IsPool pool
@@ -24,13 +23,11 @@ module _ (l : List Tone) (pool : Pool) (e : pool ≡ pool_of (sorted (take 16 l)
       ap (λ (p : Pool). record { left = p; key = key }) (f ∙ ap (λ (p : Pool). laid_over (without_last lowest limit key (tones_in pool)) p.tones) e)
       ∙ ap₂ (λ (x : ℕ) (t : List Tone). record { key = x; left = laid_over (without_last lowest limit x t) (pool_of (sorted (take 16 l))).tones }) (k ∙ ap (lead_of lowest limit wanted) tones) tones
 
-abbrev pairs : tie.After-ordered-pool → List Tone
-pairs c = tones_of c.before.before.before.args.classes.now c.before.before.before.args.intervals.now
+pub lead_key-key-requires : goal.lead_key-key-requires
+lead_key-key-requires c = is_pool (tones_of c.args.classes.now c.args.intervals.now) _ c.ordered_pool-pool.ensures
 
-pub nearest_lead_spec : {M : Type 1} → statement M
-nearest_lead_spec = tie.close (tie.spec
-    (λ c κs. search rules)
-    (λ c κs. is_pool (pairs c) _ c.ordered-pool.ensures)
-    (λ c κs. is_pool (pairs c.before) _ c.before.ordered-pool.ensures)
-    (λ c. let p = c.before.before in
-    led (pairs p) _ p.ordered-pool.ensures _ _ _ _ _ c.before.lead-key.ensures c.leave.ensures))
+pub leave-requires : goal.leave-requires
+leave-requires c = is_pool (tones_of c.args.classes.now c.args.intervals.now) _ c.ordered_pool-pool.ensures
+
+pub returns : goal.returns
+returns c = led (tones_of c.args.classes.now c.args.intervals.now) _ c.ordered_pool-pool.ensures _ _ _ _ _ c.lead_key-key.ensures c.leave.ensures

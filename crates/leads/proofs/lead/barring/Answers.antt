@@ -2,11 +2,9 @@
 use Rattle.answer.proofs.Kit.{◌≡◌, sym, ap, ◌∙◌, Bool, true, false, cond, ◌&&◌, ℕ, ◌-◌, ◌*◌, ◌%◌, ◌^◌, ◌≤◌, ◌<◌, mod-eq_of_lt, arith, rules}
 use mir.Val.{bool_byte}
 use Rattle.intervals.specs.Sets.{has, without}
-use Rattle.leads.specs.Lead.{rubs}
 use Rattle.intervals.proofs.Members.{bit_least}
 use Rattle.intervals.proofs.Width.{within, bit_held}
-use Rattle.leads.proofs.lead.barring.Statement.{statement}
-use Rattle.leads.proofs.lead.barring.Tie as tie
+use Rattle.leads.proofs.lead.barring.Goals as goal
 
 -- the bit that goes, as the code shifts it
 abbrev bit_out : Bool → ℕ → ℕ
@@ -30,11 +28,9 @@ module _ (free k : ℕ) (small : free < 2 ^ 32) where
   barred true false e = rw e (omega arith)
   barred false m e = omega arith
 
-pub barring_spec : {M : Type 1} → statement M
-barring_spec = tie.close (tie.spec
-    (λ c κs. search rules) (λ c κs. search rules) (λ c. search rules) (λ c. search rules) (λ c. search rules)
-    (λ c. let s = c.before.before.before in
-    out_least s.args.free s.args.next.interval (search rules) c.before.before.rubs.result c.before.in-set.result (sym c.before.in-set.ensures))
-    (λ c. let s = c.before.before.before in
-    barred s.args.free s.args.next.interval (search rules) c.before.before.rubs.result c.before.in-set.result (sym c.before.in-set.ensures)
-    ∙ ap (λ (b : Bool). cond b (without s.args.next.interval s.args.free) s.args.free) c.before.before.rubs.ensures))
+pub overflow_sub-result : goal.overflow_sub-result
+overflow_sub-result c = out_least c.args.free c.args.next.interval (search rules) c.rubs.result c.in_set.result (sym c.in_set.ensures)
+
+pub returns : goal.returns
+returns c = barred c.args.free c.args.next.interval (search rules) c.rubs.result c.in_set.result (sym c.in_set.ensures)
+    ∙ ap (λ (b : Bool). cond b (without c.args.next.interval c.args.free) c.args.free) c.rubs.ensures

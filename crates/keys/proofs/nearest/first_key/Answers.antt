@@ -1,8 +1,7 @@
 -- `keys::nearest::first_key` meets its contract: by whether the class's own key, or the next, is within the range.
-use Rattle.answer.proofs.Kit.{◌≡◌, ℕ, ◌+◌, ◌-◌, ◌*◌, ◌/◌, ◌%◌, ◌≤◌, ◌<◌, dec_lt, arith, ltb, lt-ltb, le-ltb, rules}
+use Rattle.answer.proofs.Kit.{◌≡◌, ℕ, ◌+◌, ◌-◌, ◌*◌, ◌/◌, ◌%◌, ◌≤◌, ◌<◌, dec_lt, arith, ltb, lt-ltb, le-ltb}
 use mir.Val.{bool_byte}
-use Rattle.keys.proofs.nearest.first_key.Statement.{statement}
-use Rattle.keys.proofs.nearest.first_key.Tie as tie
+use Rattle.keys.proofs.nearest.first_key.Goals as goal
 
 -- a key, or the one an octave up where it is below the lowest
 abbrev near : ℕ → ℕ → ℕ
@@ -19,9 +18,8 @@ is_first key low = by_order (dec_lt key low)
 own_below : (key low : ℕ) → near key low < low → key ≤ low
 own_below key low h = omega arith
 
-pub first_key_spec : {M : Type 1} → statement M
-first_key_spec = tie.close (tie.spec
-    (λ c. search rules) (λ c. search rules) (λ c. search rules) (λ c. search rules)
-    (λ c. is_first _ _ c.if1.true)
-    (λ c. own_below _ _ c.if1.false)
-    (λ c. search rules) (λ c. search rules) (λ c. search rules) (λ c. search rules))
+pub returns-then-low-near : goal.returns-then-low-near
+returns-then-low-near c = is_first _ _ c.if-low-near.true
+
+pub overflow_sub-result : goal.overflow_sub-result
+overflow_sub-result c = own_below _ _ c.if-low-near.false
