@@ -1,7 +1,6 @@
 -- `musicxml::degrees::add_row` meets its contract: each arm has the words of its degree.
-use Rattle.answer.proofs.Kit.{◌≡◌, refl, ◌<◌, arith}
+use Rattle.answer.proofs.Kit.{◌≡◌, refl, arith}
 use Rattle.answer.specs.Words.{bytes, digits, text_of}
-use Rattle.answer.proofs.Arms.{nones}
 use Rattle.intervals.specs.Intervals.{intervals, nth, numbered}
 use Rattle.harmonies.specs.Harmony.{decimal, integer}
 use Rattle.musicxml.proofs.degrees.add_row.Goals as goal
@@ -96,7 +95,6 @@ returns-in-21 c = rw c.in-21.is record { short = omega arith; value = refl; smal
 
 pub returns-in_default : goal.returns-in_default
 unfolding bytes digits text_of intervals nth numbered decimal integer
-returns-in_default c = let n = c.args.number in
-    let no_less : n < 22 → ⊥ = nones n 22 c.in_default.in_default-own.rest in
-    let here : n ≡ 22 = omega arith in
+returns-in_default c =
+    let here : c.args.number ≡ 22 = omega arith in
     rw here record { short = omega arith; value = refl; small = omega arith; alter = refl }

@@ -2,7 +2,7 @@
 use Rattle.answer.proofs.Kit.{◌≡◌, sym, ap, subst, ◌∙◌, Bool, true, ◌&&◌, ◌<◌, arith, leb, leb→le}
 use Rattle.answer.specs.Replies.{Reply, text, Answered}
 use Rattle.answer.proofs.Rooms.{refused_by}
-use Rattle.answer.proofs.Tests.{left, right, said, is_true, refused, admitted}
+use Rattle.answer.proofs.Tests.{left, right, said, is_true}
 use Rattle.answer.proofs.Writing.{counted, within}
 use Rattle.intervals.specs.Bass.{is_bass}
 use Rattle.intervals.specs.Sets.{is_rooted}
@@ -22,7 +22,7 @@ tested c = ap (λ (b : Bool). leb c.args.root 11 && b) c.is_bass.ensures
 -- the classes are not refused
 module _ (c : Else-not-root-is_bass) where
   good : leb c.args.root 11 && is_bass c.args.bass ≡ true
-  good = admitted _ _ (ap (λ (b : Bool). leb c.args.root 11 && b) c.is_bass.ensures) c.if-not-root-is_bass.false-raw
+  good = sym (ap (λ (b : Bool). leb c.args.root 11 && b) c.is_bass.ensures) ∙ c.if-not-root-is_bass.false
 
   class : c.args.root < 12
   class = let h = leb→le c.args.root 11 (left (leb c.args.root 11) _ (said _ good)) in omega arith
@@ -33,7 +33,7 @@ module _ (c : Else-not-root-is_bass) where
 pub returns-then-not-root-is_bass : goal.returns-then-not-root-is_bass
 returns-then-not-root-is_bass c =
     let p = (goal.at.returns-then-not-root-is_bass c).After-is_bass in
-    refused_by _ _ _ (no_class _ _ _ (told p).0 (refused _ _ (tested p) c.if-not-root-is_bass.true-raw))
+    refused_by _ _ _ (no_class _ _ _ (told p).0 (sym (tested p) ∙ c.if-not-root-is_bass.true))
 
 pub put_harmony-end-requires : goal.put_harmony-end-requires
 put_harmony-end-requires c =

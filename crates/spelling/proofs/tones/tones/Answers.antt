@@ -2,7 +2,6 @@
 use Rattle.answer.proofs.Kit.{◌≡◌, sym, subst, ◌∙◌, true}
 use Rattle.answer.specs.Replies.{Reply, Answered}
 use Rattle.answer.proofs.Rooms.{refused_by}
-use Rattle.answer.proofs.Tests.{refused, admitted}
 use Rattle.intervals.specs.Sets.{is_rooted}
 use Rattle.notes.specs.declared.note.NoteAnswer.TheVariants.{Refused}
 use Rattle.names.specs.Names.{flats}
@@ -14,10 +13,10 @@ use Rattle.spelling.proofs.tones.tones.Goals.{Else-not-is_rooted}
 
 -- the set that was not refused
 is_rooted_lem : (c : Else-not-is_rooted) → is_rooted c.args.set ≡ true
-is_rooted_lem c = admitted _ _ c.is_rooted.ensures c.if-not-is_rooted.false-raw
+is_rooted_lem c = sym c.is_rooted.ensures ∙ c.if-not-is_rooted.false
 
 pub returns-then-not-is_rooted : goal.returns-then-not-is_rooted
-returns-then-not-is_rooted c = refused_by _ _ _ (not_rooted spelled_by _ _ (refused _ _ c.is_rooted.ensures c.if-not-is_rooted.true-raw))
+returns-then-not-is_rooted c = refused_by _ _ _ (not_rooted spelled_by _ _ (sym c.is_rooted.ensures ∙ c.if-not-is_rooted.true))
 
 pub tones_on-requires : goal.tones_on-requires
 tones_on-requires c = (note_in_lem flats flats_brief _ _ (sym c.class_note.ensures ∙ c.in-Is.is), is_rooted_lem (goal.at.tones_on-requires c).Else-not-is_rooted)
