@@ -11,7 +11,6 @@ use Rattle.intervals.specs.Bass.{is_bass}
 use Rattle.intervals.specs.Sets.{is_rooted, has_all}
 use Rattle.intervals.specs.Intervals.{class_of}
 use Rattle.intervals.specs.declared.bass.Bass.{Bass}
-use Rattle.intervals.specs.declared.bass.Bass.TheVariants as Bass
 use Rattle.intervals.proofs.Rooted.{at_rooted}
 use Rattle.qualities.specs.Qualities.{quality_of, quality_number}
 use Rattle.qualities.specs.declared.quality.ChordQuality.{ChordQuality}

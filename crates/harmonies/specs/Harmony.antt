@@ -3,10 +3,8 @@ use Rattle.std.specs.Prelude.{cond, List, [], ◌∷◌, ◌++◌, map, ℕ, suc
 use Prim.Native.String.{String}
 use Rattle.answer.specs.Words.{bytes}
 use Rattle.intervals.specs.declared.bass.Bass.{Bass}
-use Rattle.intervals.specs.declared.bass.Bass.TheVariants as Bass
 use Rattle.notes.specs.NoteText.{letter_name}
 use Rattle.notes.specs.declared.note.Accidental.{Accidental}
-use Rattle.notes.specs.declared.note.Accidental.TheVariants as Accidental
 use Rattle.notes.specs.declared.note.Note.{Note}
 -- the code's table, passed on to those that cite the element
 pub use Rattle.names.specs.Names.{flats}

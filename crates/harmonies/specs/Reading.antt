@@ -3,7 +3,6 @@ use Rattle.std.specs.Prelude.{Bool, false, cond, ◌||◌, List, [], ◌∷◌, 
 use Prim.Native.String.{String}
 use Rattle.answer.specs.Words.{bytes, same}
 use Rattle.intervals.specs.declared.bass.Bass.{Bass}
-use Rattle.intervals.specs.declared.bass.Bass.TheVariants as Bass
 use Rattle.notes.specs.Notes.{natural, mod12}
 use Rattle.harmonies.specs.Xml.{Elements, none, element}
 use Rattle.harmonies.specs.Scanning.{elements_of}

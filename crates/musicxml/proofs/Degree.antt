@@ -10,7 +10,7 @@ use Rattle.intervals.specs.Intervals.{class_of, to_degree_of}
 use Rattle.intervals.specs.declared.interval.Interval.{Interval}
 use Rattle.intervals.specs.declared.interval.IntDegree.TheVariants.{Third, Fifth}
 use Rattle.rules.specs.Classes.{keep}
-use Rattle.harmonies.specs.Xml.{◌then◌, written}
+use Rattle.harmonies.specs.Xml.{written}
 use Rattle.harmonies.specs.Degrees.{Degree}
 use Rattle.harmonies.specs.Kinds.{Kind, subtract_of, silent}
 use Rattle.harmonies.specs.Harmony.{decimal, integer, degree, degrees}

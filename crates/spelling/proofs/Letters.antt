@@ -3,7 +3,7 @@
 --     crowded_exactly  which rooted sets have two tones on one letter: one test, at each of the 2,048
 --     chord_stands     the triads, sixths and sevenths of the eleven qualities, on any root: each shows its quality, stands on the letters 1 3 5, and 6 or 7,
 --                      counted from the root's, and no two of its tones share one
-use Rattle.answer.proofs.Kit.{◌≡◌, refl, sym, ap, ap₂, ◌∙◌, Bool, true, false, true≢false, not, ◌&&◌, ◌||◌, List, [], ◌∷◌, map, ℕ, ◌+◌, ◌-◌, ◌%◌, ◌≤◌, arith, T, eqb, leb, leb→le, eqb-true, eqb-false, eq-eqb, ne_eqb}
+use Rattle.answer.proofs.Kit.{◌≡◌, refl, sym, ap, ap₂, ◌∙◌, Bool, true, false, true≢false, not, ◌&&◌, ◌||◌, List, [], ◌∷◌, map, ℕ, ◌%◌, ◌≤◌, arith, T, eqb, leb, leb→le, eqb-true, eqb-false, eq-eqb, ne_eqb}
 use Rattle.answer.specs.Words.{same}
 use Rattle.answer.proofs.Tests.{left, right, said, same→eq}
 use Rattle.intervals.specs.Sets.{is_in, is_set, is_rooted, has_all, has_none}

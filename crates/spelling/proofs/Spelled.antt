@@ -1,5 +1,5 @@
 -- Laws of tones.
-use Rattle.answer.proofs.Kit.{◌≡◌, ◌∙◌, true, ℕ, ◌-◌, T, leb}
+use Rattle.answer.proofs.Kit.{◌≡◌, ◌∙◌, true, ℕ, T, leb}
 use Rattle.answer.specs.Words.{packed}
 use Rattle.answer.proofs.Digits.{is_short}
 use Rattle.answer.proofs.Tests.{is_true, all}
@@ -10,7 +10,6 @@ use Rattle.notes.specs.NoteText.{signs, note_name}
 use Rattle.notes.specs.declared.note.Note.{Note}
 use Rattle.notes.specs.declared.note.NoteAnswer.TheVariants.{Is}
 use Rattle.intervals.specs.declared.interval.Interval.{Interval}
-use Rattle.intervals.specs.declared.interval.Interval.TheVariants.{Ninth, Eleventh, Thirteenth}
 use Rattle.intervals.specs.declared.interval.IntDegree.{IntDegree}
 use Rattle.intervals.specs.declared.interval.IntDegree.TheVariants.{Root, Second, Third, Fourth, Fifth, Sixth, Seventh}
 use Rattle.intervals.specs.declared.interval.IntDegree.TheVariants as Degree

@@ -1,0 +1,16 @@
+-- `spelling::tones::numbered_word` meets its contract: the tone of the interval that the number names, if it names one.
+use Rattle.answer.proofs.Kit.{sym, ◌∙◌}
+use Rattle.answer.specs.Words.{low, packed}
+use Rattle.spelling.specs.Tones.{spelled_by}
+use Rattle.spelling.proofs.Spelled.{interval_moves, tone_worded}
+use Rattle.spelling.proofs.tones.numbered_word.Goals as goal
+
+pub tone_word-requires : goal.tone_word-requires
+tone_word-requires c = (c.requires, rw (c.st.ensures, c.numeric.ensures, c.to_degree-degree.ensures) (interval_moves spelled_by c.in-Is.interval))
+
+pub returns-in-Is : goal.returns-in-Is
+returns-in-Is c = tone_worded spelled_by _ _ c.in-Is.interval _ _ _ _ (sym c.from_number.ensures ∙ c.in-Is.is) c.to_degree-degree.ensures c.st.ensures c.numeric.ensures c.tone_word.ensures
+
+pub returns-in-Nothing : goal.returns-in-Nothing
+unfolding low packed
+returns-in-Nothing c = rw (sym c.from_number.ensures ∙ c.in-Nothing.is)
