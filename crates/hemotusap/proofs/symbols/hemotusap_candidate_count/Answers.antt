@@ -1,5 +1,5 @@
 -- `hemotusap::symbols::hemotusap_candidate_count` meets its contract.
-use Rattle.answer.proofs.Kit.{ap, ◌∙◌, arith, pos, rules}
+use Rattle.answer.proofs.Kit.{ap, ◌∙◌, arith, pos}
 use Rattle.host.proofs.Wide.{held_pos}
 use Rattle.hemotusap.proofs.symbols.hemotusap_candidate_count.Goals as goal
 

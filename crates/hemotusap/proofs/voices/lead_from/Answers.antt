@@ -1,5 +1,5 @@
 -- `hemotusap::voices::lead_from` meets its contract: by whether it is above 255.
-use Rattle.answer.proofs.Kit.{rules, lt-leb, le-leb}
+use Rattle.answer.proofs.Kit.{lt-leb, le-leb}
 use Rattle.hemotusap.proofs.voices.lead_from.Goals as goal
 
 pub returns-then-lead-gt-LAST_LEAD : goal.returns-then-lead-gt-LAST_LEAD
