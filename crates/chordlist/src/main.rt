@@ -6,18 +6,25 @@ mod codes;
 mod input;
 mod reply;
 
-ghost use Rattle.std.specs.Prelude.{◌≡◌, ◌≤◌, length as size, take};
+ghost use Rattle.std.specs.Prelude.{◌≡◌, ◌≤◌, length as size, take, IfOk, OnOk};
+ghost use Rattle.std.specs.Io.KnownBytes.{Appends};
 ghost use Rattle.answer.specs.Written.{Writes};
-ghost use Rattle.chordlist.specs.private.Pieces.{most_kept, held_after};
+ghost use Rattle.names.specs.Names.{flats};
+ghost use Rattle.chordlist.specs.private.Pieces.{most_kept, held_after, said_by};
 
 use input::{KEPT, finish, take_in};
-use libc::{STDIN_FILENO, STDOUT_FILENO};
 use reply::ROOM;
+use std::io;
+use std::io::{Read, Write};
+
+// The most bytes of a piece.
+const PIECE: usize = 4096;
 
 // Takes in a piece of the input byte by byte, and prints what each has written.
-fn feed(piece: &[u8], line: &mut [u8], length: usize) -> usize
+fn feed<W: Write>(piece: &[u8], line: &mut [u8], length: usize, output: &mut W) -> io::Result<usize>
     requires { (length ≤ most_kept) × (size line.old ≡ most_kept) }
-    ensures { Writes line.old 0 (held_after (take length line.old) piece.now) result line.new }
+    ensures held { IfOk result (λ kept. Writes line.old 0 (held_after (take length line.old) piece.now) kept line.new) }
+    ensures said { OnOk result (Appends (W.contents output.old) (W.contents output.new) (said_by flats (take length line.old) piece.now)) }
 {
     let mut out = [0u8; ROOM];
     let mut kept = length;
@@ -25,29 +32,30 @@ fn feed(piece: &[u8], line: &mut [u8], length: usize) -> usize
     while i < piece.len() {
         let taken = take_in(piece[i], line, kept, &mut out);
         let written = taken.written;
-        io::write_all(STDOUT_FILENO, &out[..written]);
+        output.write_all(&out[..written])?;
         kept = taken.kept;
         i += 1;
     }
-    kept
+    Ok(kept)
 }
 
-// A proved loop has to end, and nothing says that the input does: the turns count down from a number that no run uses up.
-fn main() {
+// A proved loop has to end, and nothing says that the input does: the turns are more than any run uses up.
+fn answer_all<R: Read, W: Write>(input: &mut R, output: &mut W) -> io::Result<()> {
     let mut line = [0u8; KEPT];
     let mut length = 0;
-    let mut input = io::buffer();
-    let mut turns = u64::MAX;
-    while turns > 0 {
-        let got = libc::read(STDIN_FILENO, &mut input);
-        let count = io::count(got, &input);
+    let mut piece = [0u8; PIECE];
+    for _ in 0..u64::MAX {
+        let count = input.read(&mut piece)?;
         if count == 0 {
             break;
         }
-        length = feed(&input[..count], &mut line, length);
-        turns -= 1;
+        length = feed(&piece[..count], &mut line, length, output)?;
     }
     let mut out = [0u8; ROOM];
     let written = finish(&line[..length], &mut out);
-    io::write_all(STDOUT_FILENO, &out[..written]);
+    output.write_all(&out[..written])
+}
+
+fn main(rt: HostRuntime) -> io::Result<()> {
+    answer_all(&mut rt.stdin(), &mut rt.stdout())
 }

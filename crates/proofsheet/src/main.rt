@@ -7,42 +7,42 @@ use answer::output::Output;
 use answer::refusal::Refusal;
 use inference::normalize::suffix;
 use intervals::bass::Bass;
-use libc::STDOUT_FILENO;
 use listing::search::listing;
 use notes::note::{Note, NoteAnswer};
 use qualities::quality::{QualityAnswer, quality};
 use spelling::tones::tones;
+use std::io;
 use voicings::range::{HIGHEST, LOWEST};
 use voicings::voicing::{Chord, Lead, voicing};
 
-fn print(text: &[u8]) {
-    io::write_all(STDOUT_FILENO, text);
+fn print(rt: &impl Print, text: &[u8]) -> io::Result<()> {
+    rt.write_all(text)
 }
 
-fn print_number(number: u32) {
-    io::print_decimal(STDOUT_FILENO, number as u64);
+fn print_number(rt: &impl Print, number: u32) -> io::Result<()> {
+    rt.print(number)
 }
 
-fn print_refusal(why: Refusal) {
-    print(b"refused ");
-    print_number(why.number());
+fn print_refusal(rt: &impl Print, why: Refusal) -> io::Result<()> {
+    print(rt, b"refused ")?;
+    print_number(rt, why.number())
 }
 
 // A text that a call wrote.
-fn print_text(output: Output, out: &[u8]) {
+fn print_text(rt: &impl Print, output: Output, out: &[u8]) -> io::Result<()> {
     match output {
         Output::Written(count) => {
             if count <= out.len() {
-                print(&out[..count]);
+                print(rt, &out[..count])?;
             }
         }
-        Output::Refused(why) => print_refusal(why),
+        Output::Refused(why) => print_refusal(rt, why)?,
     }
-    print(b"\n");
+    print(rt, b"\n")
 }
 
 // Numbers of one byte each, or of two, the higher first, with a space before each.
-fn print_numbers(output: Output, out: &[u8], of_two: bool) {
+fn print_numbers(rt: &impl Print, output: Output, out: &[u8], of_two: bool) -> io::Result<()> {
     match output {
         Output::Written(count) => {
             let mut number: u32 = 0;
@@ -54,15 +54,15 @@ fn print_numbers(output: Output, out: &[u8], of_two: bool) {
                 number = number % 256 * 256 + wide(out[i]);
                 i += 1;
                 if !of_two | (i % 2 == 0) {
-                    print(b" ");
-                    print_number(number);
+                    print(rt, b" ")?;
+                    print_number(rt, number)?;
                     number = 0;
                 }
             }
         }
-        Output::Refused(why) => print_refusal(why),
+        Output::Refused(why) => print_refusal(rt, why)?,
     }
-    print(b"\n");
+    print(rt, b"\n")
 }
 
 fn wide(byte: u8) -> u32
@@ -71,29 +71,35 @@ fn wide(byte: u8) -> u32
     byte as u32
 }
 
-fn print_suffix(set: u32) {
+fn print_suffix(rt: &impl Print, set: u32) -> io::Result<()> {
     let mut out = [0u8; 64];
     let output = suffix(set, &mut out);
-    print_text(output, &out);
+    print_text(rt, output, &out)
 }
 
 // Qualities by their numbers.
-fn print_quality(set: u32) {
+fn print_quality(rt: &impl Print, set: u32) -> io::Result<()> {
     match quality(set) {
-        QualityAnswer::Is(found) => print_number(found.number()),
-        QualityAnswer::Refused(why) => print_refusal(why),
+        QualityAnswer::Is(found) => print_number(rt, found.number())?,
+        QualityAnswer::Refused(why) => print_refusal(rt, why)?,
     }
-    print(b"\n");
+    print(rt, b"\n")
 }
 
-fn print_listing(name: &[u8]) {
+fn print_listing(rt: &impl Print, name: &[u8]) -> io::Result<()> {
     let mut out = [0u8; 16];
     let output = listing(name, &mut out);
-    print_numbers(output, &out, true);
+    print_numbers(rt, output, &out, true)
 }
 
 // On C.
-fn print_voicing(bass: Bass, lead: Lead, classes: &[u8], intervals: &[u8]) {
+fn print_voicing(
+    rt: &impl Print,
+    bass: Bass,
+    lead: Lead,
+    classes: &[u8],
+    intervals: &[u8],
+) -> io::Result<()> {
     let mut out = [0u8; 35];
     let output = voicing(
         Chord {
@@ -107,57 +113,57 @@ fn print_voicing(bass: Bass, lead: Lead, classes: &[u8], intervals: &[u8]) {
         intervals,
         &mut out,
     );
-    print_numbers(output, &out, false);
+    print_numbers(rt, output, &out, false)
 }
 
-fn print_tones(root: u32, set: u32) {
+fn print_tones(rt: &impl Print, root: u32, set: u32) -> io::Result<()> {
     let mut out = [0u8; 34];
     let output = tones(root, set, &mut out);
-    print_text(output, &out);
+    print_text(rt, output, &out)
 }
 
 // A note, moved as one moves to another.
-fn print_moved(from: Note, note: Note, to: Note) {
+fn print_moved(rt: &impl Print, from: Note, note: Note, to: Note) -> io::Result<()> {
     let mut out = [0u8; 7];
     match from.transpose(note, to) {
         NoteAnswer::Is(moved) => {
             let output = moved.text(&mut out);
-            print_text(output, &out);
+            print_text(rt, output, &out)
         }
-        NoteAnswer::Refused(why) => print_refusal(why),
+        NoteAnswer::Refused(why) => print_refusal(rt, why),
     }
 }
 
-fn print_symbols() {
-    print_suffix(1);
-    print_suffix(145);
-    print_suffix(257);
-    print_suffix(693);
-    print_suffix(1683);
-    print_suffix(1687);
-    print_suffix(1177);
-    print_suffix(1209);
-    print_quality(0);
-    print_quality(128);
-    print_quality(129);
-    print_quality(1057);
-    print_quality(2577);
-    print_listing(b"+");
-    print_listing(b"7(b13)");
+fn print_symbols(rt: &impl Print) -> io::Result<()> {
+    print_suffix(rt, 1)?;
+    print_suffix(rt, 145)?;
+    print_suffix(rt, 257)?;
+    print_suffix(rt, 693)?;
+    print_suffix(rt, 1683)?;
+    print_suffix(rt, 1687)?;
+    print_suffix(rt, 1177)?;
+    print_suffix(rt, 1209)?;
+    print_quality(rt, 0)?;
+    print_quality(rt, 128)?;
+    print_quality(rt, 129)?;
+    print_quality(rt, 1057)?;
+    print_quality(rt, 2577)?;
+    print_listing(rt, b"+")?;
+    print_listing(rt, b"7(b13)")
 }
 
 // Intervals by their numbers: 1 is 0, b3 3, 3 4, b5 7, 5 8, Ma7 14, b9 16.
-fn print_voicings() {
-    print_voicing(Bass::None, Lead::None, &[0, 4, 7, 11], &[0, 4, 8, 14]);
-    print_voicing(Bass::None, Lead::Key(72), &[0, 3, 6], &[0, 3, 7]);
-    print_voicing(Bass::None, Lead::Key(60), &[0, 1], &[0, 16]);
-    print_voicing(Bass::Class(4), Lead::None, &[0, 4, 7], &[0, 4, 8]);
+fn print_voicings(rt: &impl Print) -> io::Result<()> {
+    print_voicing(rt, Bass::None, Lead::None, &[0, 4, 7, 11], &[0, 4, 8, 14])?;
+    print_voicing(rt, Bass::None, Lead::Key(72), &[0, 3, 6], &[0, 3, 7])?;
+    print_voicing(rt, Bass::None, Lead::Key(60), &[0, 1], &[0, 16])?;
+    print_voicing(rt, Bass::Class(4), Lead::None, &[0, 4, 7], &[0, 4, 8])
 }
 
-fn main() {
-    print_symbols();
-    print_voicings();
-    print_tones(0, 73);
-    print_tones(6, 137);
-    print_moved(Note::new(0, 0), Note::new(2, -1), Note::new(4, 0));
+fn main(rt: HostRuntime) -> io::Result<()> {
+    print_symbols(&rt)?;
+    print_voicings(&rt)?;
+    print_tones(&rt, 0, 73)?;
+    print_tones(&rt, 6, 137)?;
+    print_moved(&rt, Note::new(0, 0), Note::new(2, -1), Note::new(4, 0))
 }

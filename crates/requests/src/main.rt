@@ -19,6 +19,8 @@
 mod line;
 mod print;
 
+ghost use Rattle.std.specs.Io.{ReadsAtMost};
+
 use crate::line::{asks, bytes, number, part, signed};
 use crate::print::{print, print_bytes, print_given, print_part, print_size};
 use hemotusap::moves::{hemotusap_get_note, hemotusap_transpose};
@@ -30,7 +32,8 @@ use hemotusap::symbols::{
     hemotusap_listing, hemotusap_suffix, hemotusap_tones,
 };
 use hemotusap::voices::{hemotusap_voicing, hemotusap_voicing_within};
-use libc::STDIN_FILENO;
+use std::io;
+use std::io::Read;
 
 const LINE_FEED: u8 = b'\n';
 
@@ -180,33 +183,39 @@ fn writing(line: &[u8], out: &mut [u8]) -> i64 {
 }
 
 // Numbers are printed as numbers, texts as they are.
-fn reply_writing(line: &[u8], out: &mut [u8]) {
-    print_given(writing(line, out));
+fn reply_writing(rt: &impl Print, line: &[u8], out: &mut [u8]) -> io::Result<()> {
+    print_given(rt, writing(line, out))?;
     if asks(line, b"listing") | asks(line, b"voicing") | asks(line, b"voicing_within") {
-        print_bytes(out);
+        print_bytes(rt, out)
     } else {
-        print(b" ");
-        print(out);
+        print(rt, b" ")?;
+        print(rt, out)
     }
 }
 
-fn reply_part<'a>(flat: &'a [u8], sharp: &'a [u8], line_number: u32, fifths: i32) {
+fn reply_part<'a>(
+    rt: &impl Print,
+    flat: &'a [u8],
+    sharp: &'a [u8],
+    line_number: u32,
+    fifths: i32,
+) -> io::Result<()> {
     // No answer has these, so that one which is not written shows.
     let mut start = u64::MAX;
     let mut length = u64::MAX;
     let given = hemotusap_candidate_line(flat, sharp, line_number, fifths, &mut start, &mut length);
-    print_given(given);
-    print_size(start);
-    print_size(length);
-    print(b" ");
+    print_given(rt, given)?;
+    print_size(rt, start)?;
+    print_size(rt, length)?;
+    print(rt, b" ")?;
     if given == 0 {
-        print_part(flat, start, length);
+        print_part(rt, flat, start, length)
     } else {
-        print_part(sharp, start, length);
+        print_part(rt, sharp, start, length)
     }
 }
 
-fn reply_candidate_line(line: &[u8]) {
+fn reply_candidate_line(rt: &impl Print, line: &[u8]) -> io::Result<()> {
     let mut flat = [FULL_STOP; RANGE];
     let mut sharp = [FULL_STOP; RANGE];
     candidates(line, &mut flat, false, false);
@@ -215,7 +224,8 @@ fn reply_candidate_line(line: &[u8]) {
     let sharp_length = number(line, 5) as usize;
     if flat_length <= RANGE {
         if sharp_length <= RANGE {
-            reply_part(
+            return reply_part(
+                rt,
                 &flat[..flat_length],
                 &sharp[..sharp_length],
                 number(line, 1),
@@ -223,42 +233,59 @@ fn reply_candidate_line(line: &[u8]) {
             );
         }
     }
+    Ok(())
 }
 
-fn reply(line: &[u8]) {
+fn reply(rt: &impl Print, line: &[u8]) -> io::Result<()> {
     if asks(line, b"candidate_line") {
-        reply_candidate_line(line);
-        return;
+        return reply_candidate_line(rt, line);
     }
     let given = plain(line);
     if given != UNKNOWN {
-        print_given(given);
-        return;
+        return print_given(rt, given);
     }
     let room = number(line, 1) as usize;
     let mut range = [FULL_STOP; RANGE];
     if room <= RANGE {
-        reply_writing(line, &mut range[..room]);
+        return reply_writing(rt, line, &mut range[..room]);
     }
+    Ok(())
 }
 
-fn reply_all(input: &[u8]) {
+fn reply_all(rt: &impl Print, input: &[u8]) -> io::Result<()> {
     let mut start = 0;
     let mut at = 0;
     while at < input.len() {
         if input[at] == LINE_FEED {
-            reply(&input[start..at]);
-            print(b"\n");
+            reply(rt, &input[start..at])?;
+            print(rt, b"\n")?;
             start = at + 1;
         }
         at += 1;
     }
+    Ok(())
 }
 
-fn main() {
-    let mut input = [0u8; INPUT];
-    let count = io::read_full(STDIN_FILENO, &mut input);
-    if count < INPUT {
-        reply_all(&input[..count]);
+// Reads until a range is full or the input ends, and gives how many bytes stand at the range's front.
+fn read_full(input: &mut impl Read, range: &mut [u8]) -> io::Result<usize>
+    ensures { ReadsAtMost result range.new }
+{
+    let mut count = 0;
+    while count < range.len() {
+        let more = input.read(&mut range[count..])?;
+        if more == 0 {
+            break;
+        }
+        count += more;
     }
+    Ok(count)
+}
+
+fn main(rt: HostRuntime) -> io::Result<()> {
+    let mut input = [0u8; INPUT];
+    let count = read_full(&mut rt.stdin(), &mut input)?;
+    if count < INPUT {
+        reply_all(&rt, &input[..count])?;
+    }
+    Ok(())
 }

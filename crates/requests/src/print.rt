@@ -1,48 +1,45 @@
 // Numbers and lent bytes, printed.
-use libc::STDOUT_FILENO;
+use std::io;
 
-pub(crate) fn print(text: &[u8]) {
-    io::write_all(STDOUT_FILENO, text);
+pub(crate) fn print(rt: &impl Print, text: &[u8]) -> io::Result<()> {
+    rt.write_all(text)
 }
 
 // What a call gave back: at or above 0 an answer, below 0 a refusal. The lowest number, whose size does not fit, is neither and
 // prints nothing.
-pub(crate) fn print_given(given: i64) {
-    if given >= 0 {
-        io::print_decimal(STDOUT_FILENO, given as u64);
-        return;
-    }
+pub(crate) fn print_given(rt: &impl Print, given: i64) -> io::Result<()> {
     if given > i64::MIN {
-        print(b"-");
-        io::print_decimal(STDOUT_FILENO, (0 - given) as u64);
+        return rt.print(given);
     }
+    Ok(())
 }
 
-pub(crate) fn print_bytes(bytes: &[u8]) {
+pub(crate) fn print_bytes(rt: &impl Print, bytes: &[u8]) -> io::Result<()> {
     let mut i = 0;
     while i < bytes.len() {
-        print_size(wide(bytes[i]));
+        print_size(rt, wide(bytes[i]))?;
         i += 1;
     }
+    Ok(())
 }
 
-pub(crate) fn print_size(size: u64) {
-    print(b" ");
-    io::print_decimal(STDOUT_FILENO, size);
+pub(crate) fn print_size(rt: &impl Print, size: u64) -> io::Result<()> {
+    print(rt, b" ")?;
+    rt.print(size)
 }
 
 // A part of a range, if it is one.
-pub(crate) fn print_part(range: &[u8], start: u64, length: u64) {
+pub(crate) fn print_part(rt: &impl Print, range: &[u8], start: u64, length: u64) -> io::Result<()> {
     let size = range.len() as u64;
     if start > size {
-        return;
+        return Ok(());
     }
     if length > size - start {
-        return;
+        return Ok(());
     }
     let from = start as usize;
     let end = (start + length) as usize;
-    print(&range[from..end]);
+    print(rt, &range[from..end])
 }
 
 fn wide(byte: u8) -> u64 {
