@@ -3,14 +3,15 @@
 --     silent                any other byte has nothing printed
 --     kept, full            it is kept where it has room, and else dropped
 --     none_taken, one_taken     before the first byte of a piece, and behind one more
-use Rattle.answer.proofs.Kit.{◌≡◌, refl, sym, ap, ◌∙◌, List, [], ◌∷◌, ◌++◌, ℕ, suc, ◌+◌, ◌<◌, ◌≤◌, zero-add, add-one, arith, length, take, drop, get_or, set, length-append, take-append-drop, take_all, take-append-le, length-take-le, take-suc, set_split, append_snoc, eq-eqb, ne_eqb}
+--     one_said      what is printed behind one more
+use Rattle.answer.proofs.Kit.{◌≡◌, refl, sym, ap, ◌∙◌, List, [], ◌∷◌, ◌++◌, append-nil, ℕ, suc, ◌+◌, ◌<◌, ◌≤◌, zero-add, add-one, arith, length, take, drop, get_or, set, length-append, take-append-drop, take_all, take-append-le, length-take-le, take-suc, set_split, append_snoc, eq-eqb, ne_eqb}
 use Rattle.notes.specs.declared.note.Note.{Note}
 use Rattle.answer.specs.Written.{Writes}
 use Rattle.chordlist.specs.Replies.{line_text}
 use Rattle.chordlist.specs.private.Calls.{Printed}
 use Rattle.answer.specs.Lines.{line_feed}
-use Rattle.chordlist.specs.private.Pieces.{most_kept, held_with, Keeps, said_with, held_after}
-use Rattle.chordlist.proofs.Streams.{line_ends, line_goes_on, held_append}
+use Rattle.chordlist.specs.private.Pieces.{most_kept, held_with, Keeps, said_with, held_after, said_by}
+use Rattle.chordlist.proofs.Streams.{line_ends, line_goes_on, held_append, said_append}
 use Rattle.chordlist.proofs.Printing.{fronted, no_text, by_count}
 
 module _ (names : List Note) (held : List ℕ) (byte : ℕ) where
@@ -57,3 +58,12 @@ module _ (entry piece : List ℕ) (n : ℕ) where
       ap (λ (t : List ℕ). held_with t (get_or piece i 0)) w.added ∙ sym (held_append (take n entry) (take i piece) (get_or piece i 0 ∷ []))
       ∙ ap (held_after (take n entry)) (sym (take-suc piece i 0 h) ∙ ap (λ (k : ℕ). take k piece) (sym (add-one i))) in
       record { place = f.count ∙ ap length is ∙ sym (zero-add _); added = f.front ∙ is }
+
+  pub one_said : (names : List Note) (i m : ℕ) (line : List ℕ) → i < length piece → Writes entry 0 (held_after (take n entry) (take i piece)) m line
+      → said_by names (take n entry) (take i piece) ++ said_with names (take m line) (get_or piece i 0) ≡ said_by names (take n entry) (take (i + 1) piece)
+  unfolding said_by
+  one_said names i m line h w =
+      ap (λ (t : List ℕ). said_by names (take n entry) (take i piece) ++ said_with names t (get_or piece i 0)) w.added
+      ∙ ap (λ (t : List ℕ). said_by names (take n entry) (take i piece) ++ t) (sym (append-nil _))
+      ∙ sym (said_append names (take n entry) (take i piece) (get_or piece i 0 ∷ []))
+      ∙ ap (said_by names (take n entry)) (sym (take-suc piece i 0 h) ∙ ap (λ (k : ℕ). take k piece) (sym (add-one i)))

@@ -2,6 +2,11 @@
 -- call, and one content of the ranges that it is lent.
 --     take_in_decides, finish_decides, reply_decides     the answer, and every byte lent
 --     feed_decides       the answer, and the bytes that are kept: those behind them are of earlier lines
+use denote.RattleType.{RattleType}
+use denote.Param.Laws.{Laws}
+use mir.Syntax.{Dict}
+use Rattle.std.proofs.Common.{Result, Ok}
+use Rattle.std.specs.declared.io.traits.Write.{Ghosts as Write}
 use Rattle.answer.proofs.Kit.{◌≡◌, ap₂, List, ℕ, take}
 use Rattle.answer.specs.declared.output.Output.{Output}
 use Rattle.answer.specs.declared.output.Output.TheVariants.{Written}
@@ -34,10 +39,10 @@ take_in_decides = (
   λ κs a r r' s s' p q. let w = once p.1 q.1 in (same_taken (once p.0 q.0).0 w.0, w.1),
 )
 
--- the bytes of the line that are kept
-abbrev DecidesPart {ℓ} : {K : Type ℓ} {A R S : K → Type 0} → ((κs : K) → A κs → R κs → S κs → Type 0) → ((κs : K) → R κs → S κs → List ℕ) → Type ℓ
-DecidesPart {K} {A} {R} {S} Post part =
-    (κs : K) (a : A κs) (r r' : R κs) (s s' : S κs) → Post κs a r s → Post κs a r' s' → (r ≡ r') × (part κs r s ≡ part κs r' s')
+-- where every write went well: how many bytes of the line are kept, and which
+abbrev DecidesPart {ℓ} : {K : Type ℓ} {E : Type 0} {A S : K → Type 0} → ((κs : K) → A κs → Result ℕ E → S κs → Type 0) → ((κs : K) → ℕ → S κs → List ℕ) → Type ℓ
+DecidesPart {K} {E} {A} {S} Post part =
+    (κs : K) (a : A κs) (n n' : ℕ) (s s' : S κs) → Post κs a (Ok n) s → Post κs a (Ok n') s' → (n ≡ n') × (part κs n s ≡ part κs n' s')
 
-pub feed_decides : DecidesPart feed.Post (λ κs r s. take r s.1.0.now)
-feed_decides κs a r r' s s' p q = (determined p.place q.place, determined p.added q.added)
+pub feed_decides : (W : RattleType) (laws : Laws W) (write : Write W.Denot) (dict : Dict) → DecidesPart (feed.Post W laws write dict) (λ κs n s. take n s.1.0.now)
+feed_decides W laws write dict κs a n n' s s' p q = (determined p.0.place q.0.place, determined p.0.added q.0.added)

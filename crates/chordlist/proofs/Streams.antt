@@ -3,6 +3,8 @@
 --     line_ends, line_goes_on     a byte that is LF, and one that is not
 --     held_append     what is kept after two pieces
 --     held_short      no more is kept than there is room for
+--     said_append     what two pieces have printed
+--     held_more, said_more, said_all     what is kept and printed of what was read, with a piece more, and with the end
 --     in_pieces       pieces of an input, one after the other, and then its end print `input_text` of the whole
 use Rattle.answer.proofs.Kit.{◌≡◌, refl, sym, ap, ap₂, ◌∙◌, Bool, true, false, ◌⊎◌, inl, inr, ⊎_elim, List, [], ◌∷◌, ◌++◌, append-nil, append_assoc, flat_map, flatten, ℕ, ◌≤◌, ◌<◌, arith, eqb, leb, length, take, length-take, take_all, take-append-le, length-take-le, lt-leb, leb-true, leb-false}
 use Rattle.notes.specs.declared.note.Note.{Note}
@@ -65,7 +67,7 @@ held_short held (byte ∷ more) h = held_short (held_with held byte) more (go (e
     go false e = rw (line_goes_on [] held byte e).0 (omega (arith, length-take most_kept (held ++ (byte ∷ []))))
 
 module _ (names : List Note) where
-  said_append : (held p q : List ℕ) → said_by names held (p ++ q) ≡ said_by names held p ++ said_by names (held_after held p) q
+  pub said_append : (held p q : List ℕ) → said_by names held (p ++ q) ≡ said_by names held p ++ said_by names (held_after held p) q
   unfolding held_after said_by
   said_append held [] q = refl
   said_append held (byte ∷ more) q =
@@ -130,3 +132,15 @@ module _ (names : List Note) where
   pub in_pieces : (pieces : List (List ℕ)) → said_by_all names [] pieces ≡ input_text names (flatten pieces)
   unfolding input_text lines_of onto
   in_pieces pieces = from_held [] pieces ∙ mid_line [] (flatten pieces)
+
+-- what was read, of whose last line something is held
+module _ (names : List Note) (read held : List ℕ) where
+  pub held_more : (piece now : List ℕ) → held ≡ held_after [] read → now ≡ held_after held piece → now ≡ held_after [] (read ++ piece)
+  held_more piece now e after = after ∙ ap (λ (t : List ℕ). held_after t piece) e ∙ sym (held_append [] read piece)
+
+  pub said_more : (piece : List ℕ) → held ≡ held_after [] read → said_by names [] read ++ said_by names held piece ≡ said_by names [] (read ++ piece)
+  said_more piece e = ap (λ (t : List ℕ). said_by names [] read ++ said_by names t piece) e ∙ sym (said_append names [] read piece)
+
+  pub said_all : held ≡ held_after [] read → said_by names [] read ++ said_at_end names held ≡ input_text names read
+  unfolding input_text lines_of onto
+  said_all e = ap (λ (t : List ℕ). said_by names [] read ++ said_at_end names t) e ∙ mid_line names [] read

@@ -6,10 +6,11 @@ mod codes;
 mod input;
 mod reply;
 
-ghost use Rattle.std.specs.Prelude.{◌≡◌, ◌≤◌, length as size, take, IfOk, OnOk};
-ghost use Rattle.std.specs.Io.KnownBytes.{Appends};
+ghost use Rattle.std.specs.Prelude.{◌≡◌, ℕ, ◌-◌, ◌^◌, ◌<◌, ◌≤◌, List, length as size, take, IfSome, IfOk, OnOk};
+ghost use Rattle.std.specs.Io.KnownBytes.{Appends, Consumes, IsAtEnd};
 ghost use Rattle.answer.specs.Written.{Writes};
 ghost use Rattle.names.specs.Names.{flats};
+ghost use Rattle.chordlist.specs.Input.{input_text};
 ghost use Rattle.chordlist.specs.private.Pieces.{most_kept, held_after, said_by};
 
 use input::{KEPT, finish, take_in};
@@ -39,8 +40,13 @@ fn feed<W: Write>(piece: &[u8], line: &mut [u8], length: usize, output: &mut W) 
     Ok(kept)
 }
 
-// A proved loop has to end, and nothing says that the input does: the turns are more than any run uses up.
-fn answer_all<R: Read, W: Write>(input: &mut R, output: &mut W) -> io::Result<()> {
+// Answers the lines of an input, which comes in pieces. A proved loop has to end, and nothing says that the input does: the
+// turns are more than any run uses up.
+fn answer_all<R: Read, W: Write>(input: &mut R, output: &mut W) -> io::Result<()>
+    ensures answered { OnOk result ((read : List ℕ) × Consumes (R.remaining input.old) (R.remaining input.new) read
+        × Appends (W.contents output.old) (W.contents output.new) (input_text flats read)) }
+    ensures whole { OnOk result (IfSome (R.remaining input.old) (λ bytes. size bytes < 2 ^ 64 - 1 → IsAtEnd (R.remaining input.new))) }
+{
     let mut line = [0u8; KEPT];
     let mut length = 0;
     let mut piece = [0u8; PIECE];

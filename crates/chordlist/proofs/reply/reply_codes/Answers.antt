@@ -1,5 +1,5 @@
 -- `chordlist::reply::reply_codes` meets its contract: there is room for all candidates and the stop, so that none but a code above 127 is refused.
-use Rattle.answer.proofs.Kit.{◌≡◌, refl, sym, subst, ◌∙◌, List, [], ◌∷◌, ◌++◌, append_assoc, ℕ, ◌+◌, ◌≤◌, arith, length, drop, set, length-set, rules}
+use Rattle.answer.proofs.Kit.{◌≡◌, refl, sym, subst, ◌∙◌, List, [], ◌∷◌, ◌++◌, append_assoc, ℕ, ◌+◌, ◌≤◌, arith, length, drop, set, length-set}
 use Rattle.answer.specs.Words.{bytes}
 use Rattle.answer.specs.Replies.{Reply, refuse, text, output_of, room_after, Answered, AtMost}
 use Rattle.answer.specs.declared.output.Output.{Output}
@@ -12,8 +12,8 @@ use Rattle.strict.proofs.FirstAbove.{strict_room}
 use Rattle.chordlist.specs.Replies.{bad_text, reply_text, codes_text}
 use Rattle.chordlist.specs.private.Calls.{Printed}
 use Rattle.chordlist.proofs.Printing.{two_more}
-use Rattle.chordlist.proofs.reply.reply_codes.Statement.{statement}
-use Rattle.chordlist.proofs.reply.reply_codes.Tie as tie
+use Rattle.chordlist.proofs.reply.reply_codes.Goals as goal
+use Rattle.chordlist.proofs.reply.reply_codes.Goals.{In-Written}
 
 -- a text stands in front, as the reply says
 pub record Stands (reply : Reply) (room : List ℕ) (n : ℕ) (left : List ℕ) : Type 0 where
@@ -45,54 +45,35 @@ stopped reply room left n h s =
     (subst (λ (t : List ℕ). Printed t room (length s.listed + 2) (set (set (s.listed ++ drop (length s.listed) room) (length s.listed) 46) (length s.listed + 1) 10)) is
     (two_more s.listed room 46 10 (omega (arith, s.most))))
 
--- the call
-module _ (c : tie.After-candidates-strict) where
-  abbrev room : List ℕ
-  room = c.before.before.before.before.args.out.now
+-- the candidates that were written, and the stop's place behind them
+module _ (c : In-Written) where
+  listing : Stands (strict_reply flats c.args.codes.now) c.args.out.now c.in-Written.count c.candidates_strict.new.out
+  listing =
+      came (strict_reply flats c.args.codes.now) c.args.out.now c.candidates_strict.new.out (Written c.in-Written.count) (strict_room _ flats flats_brief)
+      c.requires c.in-Written.ensures
 
-  abbrev reply : Reply
-  reply = strict_reply flats c.before.before.before.before.args.codes.now
+  stop_place : (c.in-Written.count ≤ 840) × (c.in-Written.count + 2 ≤ length c.candidates_strict.new.out)
+  stop_place = let l = listing in (omega (arith, l.most, l.count), omega (arith, l.most, l.count, c.requires, c.candidates_strict.auto.out))
 
-  came_to : (r : Output) → c.candidates-strict.result ≡ r → Came reply room r c.candidates-strict.new.1.0
-  came_to r e =
-      subst (λ (x : Output). Came reply room x c.candidates-strict.new.1.0) e
-      (came reply room _ _ (strict_room _ flats flats_brief) c.before.before.before.before.requires c.candidates-strict.ensures)
+pub bounds-out-count : goal.bounds-out-count
+bounds-out-count c = omega (arith, (stop_place (goal.at.bounds-out-count c).In-Written).1)
 
--- the candidates that it wrote, and the stop's place behind them
-module _ (c : tie.After-count) where
-  abbrev made : tie.After-candidates-strict
-  made = c.before.before.before.before
+pub overflow_add-out : goal.overflow_add-out
+overflow_add-out c = omega (arith, (stop_place (goal.at.overflow_add-out c).In-Written).0)
 
-  abbrev count : ℕ
-  count = c.count.given.0.0
+pub bounds-out-count-in-Written : goal.bounds-out-count-in-Written
+bounds-out-count-in-Written c = simp length-set (omega (arith, (stop_place (goal.at.bounds-out-count-in-Written c).In-Written).1))
 
-  listing : Stands (reply made) (room made) count made.candidates-strict.last.1.0
-  listing = came_to made (Written count) c.count.given.1
+pub overflow_add-result : goal.overflow_add-result
+overflow_add-result c = omega (arith, (stop_place (goal.at.overflow_add-result c).In-Written).0)
 
-  stop_place : (count ≤ 840) × (count + 2 ≤ length made.candidates-strict.last.1.0)
-  stop_place = let l = listing in (omega (arith, l.most, l.count), omega (arith, l.most, l.count, made.before.before.before.before.pre, made.candidates-strict.kept.1.0))
-
-returns : tie.Need-returns
+pub returns-in-Written : goal.returns-in-Written
 unfolding codes_text
-returns c = let a = made c.before in stopped (reply a) (room a) _ _ a.before.before.before.before.pre (listing c.before)
+returns-in-Written c = stopped (strict_reply flats c.args.codes.now) _ _ _ c.requires (listing (goal.at.returns-in-Written c).In-Written)
 
-returns-2 : tie.Need-returns-2
+pub returns-in-Refused : goal.returns-in-Refused
 unfolding codes_text
-returns-2 c =
-    let b = c.before.before in
-    let told = b.before.before in
-    let a = told.before.before.before.before in
-    let e = came_to a (Refused told.enum_told.given.0.0) told.enum_told.given.1 in
-    subst (λ (l : List ℕ). Printed (reply_text (reply a)) l b.reply-bad.result b.reply-bad.new.0) e.1 (rw e.0 b.reply-bad.ensures)
-
-pub reply_codes_spec : {M : Type 1} → statement M
-reply_codes_spec = tie.close (tie.spec
-    (λ c κs. search rules) (λ c. search rules)
-    (λ c. omega (arith, (stop_place c.before).1))
-    (λ c. omega (arith, (stop_place c.before).0))
-    (λ c. simp length-set (omega (arith, (stop_place c.before).1)))
-    (λ c. omega (arith, (stop_place c.before).0))
-    (λ c. search rules) (λ c κs. search rules) (λ c. search rules)
-    returns
-    (λ c. search rules)
-    returns-2)
+returns-in-Refused c =
+    let reply = strict_reply flats c.args.codes.now in
+    let e = came reply c.args.out.now c.candidates_strict.new.out (Refused c.in-Refused.field-0) (strict_room _ flats flats_brief) c.requires c.in-Refused.ensures in
+    subst (λ (l : List ℕ). Printed (reply_text reply) l c.reply_bad.result c.reply_bad.new.out) e.1 (rw e.0 c.reply_bad.ensures)
