@@ -13,9 +13,7 @@ use Rattle.answer.specs.Refusals.{told_of}
 use Rattle.answer.proofs.First.{first_less}
 use Rattle.answer.specs.Replies.{Reply, refuse, text, fits, output_of}
 use Rattle.answer.specs.declared.output.Output.{Output}
-use Rattle.answer.specs.declared.output.Output.TheVariants as Output
 use Rattle.answer.specs.declared.refusal.Place.{Place}
-use Rattle.answer.specs.declared.refusal.Place.TheVariants as Place
 use Rattle.answer.specs.declared.refusal.Refusal.{Refusal}
 use Rattle.answer.specs.declared.refusal.Refusal.TheVariants.{NotASet, BadClass, TooManyPairs, BadPairClass, BadPairInterval, BadNote, BadMove, NotAKey, BadRange, NoRoom}
 use Rattle.notes.specs.declared.note.Note.{Note}

@@ -8,7 +8,6 @@ use lib.IntN.{pos-ne-negsuc}
 use Rattle.answer.specs.Refusals.{told_of}
 use Rattle.answer.specs.Replies.{Reply, refuse, text, AtMost, unhindered}
 use Rattle.answer.specs.declared.refusal.Place.{Place}
-use Rattle.answer.specs.declared.refusal.Place.TheVariants as Place
 use Rattle.answer.specs.declared.refusal.Refusal.{Refusal}
 use Rattle.answer.specs.declared.refusal.Refusal.TheVariants.{NoRoom}
 use Rattle.answer.proofs.Rooms.{roomy}

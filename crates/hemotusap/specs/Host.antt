@@ -3,11 +3,9 @@
 use Rattle.std.specs.Prelude.{◌≡◌, cond, List, ℕ, leb, ℤ, pos}
 use Rattle.answer.specs.Replies.{Reply, output_of, room_after}
 use Rattle.answer.specs.declared.output.Output.{Output}
-use Rattle.answer.specs.declared.output.Output.TheVariants as Output
 use Rattle.host.specs.Numbers.{refusal_number, names_number, bass_from}
 use Rattle.signatures.specs.declared.line.Part.{Part}
 use Rattle.voicings.specs.declared.voicing.Lead.{Lead}
-use Rattle.voicings.specs.declared.voicing.Lead.TheVariants as Lead
 use Rattle.voicings.specs.declared.voicing.Chord.{Chord}
 
 -- "the count of bytes written", or the refusal

@@ -1,5 +1,6 @@
-// The C boundary: each function takes plain numbers and byte ranges, calls the library, and turns its answer into a number.
-// include/hemotusap.h declares them for C and C++. No contract fixes the order of parameters: tests/run-differential notices a wrong one.
+// The boundary: each function takes plain numbers and byte ranges, calls the library, and turns its answer into a number.
+// Crate `hemotusap_c` exports them for C, and include/hemotusap.h declares them. No contract fixes the order of parameters:
+// tests/run-differential notices a wrong one.
 #![tactic(auto)]
 
 pub mod moves;

@@ -6,21 +6,14 @@ ghost use Rattle.host.specs.Numbers.{note_answer_number};
 use host::numbers::moved;
 use notes::note::Note;
 
-#[unsafe(no_mangle)]
-pub extern "C" fn hemotusap_get_note(
-    letter: u32,
-    accidental: i32,
-    semitones: u32,
-    degree: u32,
-) -> i64
+pub fn hemotusap_get_note(letter: u32, accidental: i32, semitones: u32, degree: u32) -> i64
     ensures { result ≡ note_answer_number (get_note_answer (note_of letter accidental) semitones degree) }
 {
     moved(Note::new(letter, accidental).get_note(semitones, degree))
 }
 
 // The note (letter, accidental), moved as `from` to `to`.
-#[unsafe(no_mangle)]
-pub extern "C" fn hemotusap_transpose(
+pub fn hemotusap_transpose(
     from_letter: u32,
     from_accidental: i32,
     letter: u32,

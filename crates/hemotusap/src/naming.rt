@@ -11,15 +11,13 @@ use host::numbers::quality_number;
 use notes::note::Note;
 use qualities::quality::quality;
 
-#[unsafe(no_mangle)]
-pub extern "C" fn hemotusap_quality(set: u32) -> i64
+pub fn hemotusap_quality(set: u32) -> i64
     ensures { result ≡ quality_number (quality_answer set) }
 {
     quality_number(quality(set))
 }
 
-#[unsafe(no_mangle)]
-pub extern "C" fn hemotusap_note_text(letter: u32, accidental: i32, out: &mut [u8]) -> i64
+pub fn hemotusap_note_text(letter: u32, accidental: i32, out: &mut [u8]) -> i64
     ensures { HostAnswered (note_reply signs (note_of letter accidental)) out.old result out.new }
 {
     written(Note::new(letter, accidental).text(out))

@@ -7,8 +7,7 @@ use crate::outputs::written;
 use host::numbers::bass_from;
 use musicxml::harmony::harmony;
 
-#[unsafe(no_mangle)]
-pub extern "C" fn hemotusap_harmony(root: u32, bass: u32, set: u32, out: &mut [u8]) -> i64
+pub fn hemotusap_harmony(root: u32, bass: u32, set: u32, out: &mut [u8]) -> i64
     ensures { HostAnswered (harmony_reply flats root (bass_from bass) set) out.old result out.new }
 {
     written(harmony(root, bass_from(bass), set, out))

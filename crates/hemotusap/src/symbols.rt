@@ -23,57 +23,49 @@ use signatures::line::line_part;
 use spelling::tones::tones;
 use strict::entry::{candidates_strict, candidates_strict_in};
 
-#[unsafe(no_mangle)]
-pub extern "C" fn hemotusap_suffix(set: u32, out: &mut [u8]) -> i64
+pub fn hemotusap_suffix(set: u32, out: &mut [u8]) -> i64
     ensures { HostAnswered (suffix_reply set) out.old result out.new }
 {
     written(suffix(set, out))
 }
 
-#[unsafe(no_mangle)]
-pub extern "C" fn hemotusap_listing(name: &[u8], out: &mut [u8]) -> i64
+pub fn hemotusap_listing(name: &[u8], out: &mut [u8]) -> i64
     ensures { HostAnswered (text (listing_of name.now)) out.old result out.new }
 {
     written(listing(name, out))
 }
 
-#[unsafe(no_mangle)]
-pub extern "C" fn hemotusap_tones(root: u32, set: u32, out: &mut [u8]) -> i64
+pub fn hemotusap_tones(root: u32, set: u32, out: &mut [u8]) -> i64
     ensures { HostAnswered (tones_reply spelled_by root set) out.old result out.new }
 {
     written(tones(root, set, out))
 }
 
-#[unsafe(no_mangle)]
-pub extern "C" fn hemotusap_candidates(codes: &[u8], out: &mut [u8]) -> i64
+pub fn hemotusap_candidates(codes: &[u8], out: &mut [u8]) -> i64
     ensures { HostAnswered (text (candidates_of flats codes.now)) out.old result out.new }
 {
     written(candidates(codes, out))
 }
 
-#[unsafe(no_mangle)]
-pub extern "C" fn hemotusap_candidates_strict(codes: &[u8], out: &mut [u8]) -> i64
+pub fn hemotusap_candidates_strict(codes: &[u8], out: &mut [u8]) -> i64
     ensures { HostAnswered (strict_reply flats codes.now) out.old result out.new }
 {
     written(candidates_strict(codes, out))
 }
 
-#[unsafe(no_mangle)]
-pub extern "C" fn hemotusap_candidates_sharp(codes: &[u8], out: &mut [u8]) -> i64
+pub fn hemotusap_candidates_sharp(codes: &[u8], out: &mut [u8]) -> i64
     ensures { HostAnswered (text (candidates_of sharps codes.now)) out.old result out.new }
 {
     written(candidates_in(Names::Sharps, codes, out))
 }
 
-#[unsafe(no_mangle)]
-pub extern "C" fn hemotusap_candidates_strict_sharp(codes: &[u8], out: &mut [u8]) -> i64
+pub fn hemotusap_candidates_strict_sharp(codes: &[u8], out: &mut [u8]) -> i64
     ensures { HostAnswered (strict_reply sharps codes.now) out.old result out.new }
 {
     written(candidates_strict_in(Names::Sharps, codes, out))
 }
 
-#[unsafe(no_mangle)]
-pub extern "C" fn hemotusap_candidate_line<'a>(
+pub fn hemotusap_candidate_line<'a>(
     flat: &'a [u8],
     sharp: &'a [u8],
     number: u32,
@@ -90,15 +82,13 @@ pub extern "C" fn hemotusap_candidate_line<'a>(
     names_number(names)
 }
 
-#[unsafe(no_mangle)]
-pub extern "C" fn hemotusap_candidate_count(codes: &[u8]) -> i64
+pub fn hemotusap_candidate_count(codes: &[u8]) -> i64
     ensures { result ≡ pos (class_count (class_set codes.now)) }
 {
     candidate_count(codes) as i64
 }
 
-#[unsafe(no_mangle)]
-pub extern "C" fn hemotusap_candidate(codes: &[u8], number: u32) -> i64
+pub fn hemotusap_candidate(codes: &[u8], number: u32) -> i64
     ensures { result ≡ candidate_number (candidate_at codes.now number) }
 {
     candidate_number(candidate(codes, number))

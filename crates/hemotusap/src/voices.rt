@@ -22,8 +22,7 @@ fn lead_from(lead: u32) -> Lead
 }
 
 // The voicing of a chord whose keys above the bass are from a lowest to a highest.
-#[unsafe(no_mangle)]
-pub extern "C" fn hemotusap_voicing_within(
+pub fn hemotusap_voicing_within(
     root: u32,
     bass: u32,
     lowest: u32,
@@ -46,8 +45,7 @@ pub extern "C" fn hemotusap_voicing_within(
 }
 
 // The same in the range that a host has which names none.
-#[unsafe(no_mangle)]
-pub extern "C" fn hemotusap_voicing(
+pub fn hemotusap_voicing(
     root: u32,
     bass: u32,
     classes: &[u8],

@@ -12,7 +12,6 @@ use Rattle.answer.specs.Replies.{Reply, refuse, text, fits, output_of, room_afte
 use Rattle.answer.specs.declared.output.Output.{Output}
 use Rattle.answer.specs.declared.output.Output.TheVariants.{Written, Refused}
 use Rattle.answer.specs.declared.refusal.Place.{Place}
-use Rattle.answer.specs.declared.refusal.Place.TheVariants as Place
 use Rattle.answer.specs.declared.refusal.Refusal.TheVariants.{NoRoom}
 use Rattle.notes.specs.declared.note.Note.{Note}
 use Rattle.names.specs.Names.{table_of}

@@ -17,7 +17,6 @@ use Rattle.listing.specs.Listing.{in_bytes, listing_of}
 use Rattle.voicings.specs.Range.{lowest_key, highest_key}
 use Rattle.voicings.specs.Voicing.{voicing_reply}
 use Rattle.voicings.specs.declared.voicing.Lead.{Lead}
-use Rattle.voicings.specs.declared.voicing.Lead.TheVariants as Lead
 
 -- what a row asks of the library ("Given")
 pub data Call : Type 0 where

@@ -1,7 +1,6 @@
 -- Numbers of a host's width.
 use Rattle.std.specs.Prelude.{◌^◌, ◌<◌}
 use Rattle.answer.specs.declared.output.Output.{Output}
-use Rattle.answer.specs.declared.output.Output.TheVariants as Output
 
 -- an answer's count of bytes is one that a host's 64 bits hold
 abbrev pub Fits : Output → Type 0
