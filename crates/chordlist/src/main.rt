@@ -6,7 +6,7 @@ mod codes;
 mod input;
 mod reply;
 
-ghost use Rattle.std.specs.Prelude.{◌≡◌, ℕ, ◌-◌, ◌^◌, ◌<◌, ◌≤◌, List, length as size, take, IfSome, IfOk, OnOk};
+ghost use Rattle.std.specs.Prelude.{◌≡◌, ℕ, ◌-◌, ◌^◌, ◌<◌, ◌≤◌, List, length as size, take, IfSome, IfOk, OnOk, OnErr};
 ghost use Rattle.std.specs.Io.KnownBytes.{Appends, Consumes, IsAtEnd};
 ghost use Rattle.answer.specs.Written.{Writes};
 ghost use Rattle.names.specs.Names.{flats};
@@ -26,6 +26,9 @@ fn feed<W: Write>(piece: &[u8], line: &mut [u8], length: usize, output: &mut W) 
     requires { (length ≤ most_kept) × (size line.old ≡ most_kept) }
     ensures held { IfOk result (λ kept. Writes line.old 0 (held_after (take length line.old) piece.now) kept line.new) }
     ensures said { OnOk result (Appends (W.contents output.old) (W.contents output.new) (said_by flats (take length line.old) piece.now)) }
+
+    // The error is the output's. The line keeps its size, and nobody reads it any more: with the error the program ends.
+    ensures failed { OnErr result (size line.new ≡ most_kept) }
 {
     let mut out = [0u8; ROOM];
     let mut kept = length;

@@ -50,4 +50,4 @@ pub returns : goal.returns
 returns g c =
     let h = c.loop-i in
     let end : h.i ≡ size c.args.piece.now = omega arith in
-    record { held = rw (end, take-length) at h.invariant.held; said = rw (end, take-length) at h.invariant.said }
+    record { held = rw (end, take-length) at h.invariant.held; said = rw (end, take-length) at h.invariant.said; failed = tt }
