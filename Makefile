@@ -33,8 +33,8 @@ all: $(call made_for,$(TARGET))
 targets: $(foreach target,$(every),$(call made_for,$(target)))
 	@printf '%s\n' $^
 
-# Proved once for all targets. The folders too, since a file that went is a change as well.
-$(kept)/module.bc: crates.txt tools/keep-module $(shell find crates)
+# Proved once for all targets. The folders too, since a file that went is a change as well; but not what the kit keeps beside them.
+$(kept)/module.bc: crates.txt tools/keep-module $(shell find crates/*/src crates/*/specs crates/*/proofs)
 	@tools/keep-module $(kept)
 
 # The kit compiles for this one itself.

@@ -1,11 +1,9 @@
 # What the commands of this folder share: the carried Rust is as it was carried, the machine has what they need, installed
 # from Debian where it is missing, and the library's archives with a way to link and run programs over them.
 
-# What the kit compiles for, and this machine where that is another.
+# This machine, as the archives name it.
 own=$(uname -m)-linux
-targets=(x86_64-linux)
-if [ "$own" != x86_64-linux ]; then targets+=("$own"); fi
-# Whose programs are run on either machine.
+# Whose programs are run, the other's by an emulator.
 linux_targets=(x86_64-linux aarch64-linux)
 c_options=(-std=c11 -O2 -Wall -Wextra -Werror -Iinclude -Itests/{boundary,draws,differential,load})
 
@@ -84,13 +82,6 @@ prepare_machine() { # TARGET; it sets `compiler` and `emulator`
       need gcc gcc libc6-dev
       compiler=(gcc)
       emulator=()
-      ;;
-    'x86_64-linux on aarch64-linux')
-      need x86_64-linux-gnu-gcc gcc-x86-64-linux-gnu libc6-dev-amd64-cross
-      compiler=(x86_64-linux-gnu-gcc -static)
-      . tools/kit.bash
-      emulator=("$kit/$toolchain/bin/qemu-x86_64")
-      [ -x "${emulator[0]}" ] || fail "the kit has no emulator at ${emulator[0]}"
       ;;
     'aarch64-linux on x86_64-linux')
       need aarch64-linux-gnu-gcc gcc-aarch64-linux-gnu libc6-dev-arm64-cross

@@ -1,29 +1,26 @@
-# The first error that the prover gave of a must-fail edit, from what `rt must-fail` or `rt ci` left behind.
+# The first error that the prover gave of a must-fail edit, from the lines of `rt must-fail` or `rt ci`. The kit keeps no more of it:
+# of the error's own text it cuts all behind 160 characters.
 
-# Calls `COMMAND CRATE LABEL LOG` for each edit of a crate.
+# Those that the gate kept, unless others are named.
+lines=${1:-target/gate/rt-ci}
+[ -f "$lines" ] || { echo "${0##*/}: there is no $lines: rt must-fail >FILE, and name that" >&2 && exit 1; }
+
+# Calls `COMMAND CRATE LABEL SAID` for each edit of a crate; what is said begins with how it was taken.
 each_edit() { # CRATE COMMAND
-  local edit label log
+  local edit label said
   for edit in "crates/$1/must-fail"/*.edit; do
     label=$(basename "$edit" .edit)
-    log=target/must-fail/$1/$label/.log
-    [ -f "$log" ] || { echo "${0##*/}: $1/$label was not tried: rt must-fail $1" >&2 && exit 1; }
-    "$2" "$1" "$label" "$log"
+    said=$(sed -nE "s|^([0-9]+ )?rt: must-fail $1/$label[.]edit: ||p" "$lines" | tail -n 1)
+    [ -n "$said" ] || { echo "${0##*/}: $lines tells nothing of $1/$label: rt must-fail $1" >&2 && exit 1; }
+    "$2" "$1" "$label" "$said"
   done
 }
 
-# An error's lines, joined.
-first_of() { # PATTERN LOG
-  awk -v pattern="$1" 'found && !/^  / { exit } found || $0 ~ pattern { found = 1; printf "%s", $0 }' "$2"
-}
-
-# On one line: the place, from the edited crate's folder, and all that was said of it.
-first_error() { # LOG
+# The place, from the crate's folder, and what was said of it; nothing of an edit that was not refused.
+first_error() { # SAID
   local error
-  error=$(first_of '^[^ ]*: error: ' "$1")
-  # A function without a proof file is told of in a note, and its caller in an error.
-  case $error in
-    '' | *'`close` was not admitted'*) error=$(first_of '^note: [^ ]*:[0-9]+:[0-9]+: ' "$1") ;;
-  esac
-  error=${error#"note: "}
-  printf '%s\n' "${error#"$PWD/${1%/.log}/"}"
+  error=$(sed -nE 's/^refused, as it must be( \([^()]*\))?: //p' <<<"$1")
+  [ "${#error}" -lt 160 ] || error+=' …'
+  error=${error#note: }
+  printf '%s\n' "${error#./}"
 }

@@ -18,7 +18,7 @@ ended() { # NAME STATUS SECONDS
     tell "$1 FAILED (status $2, $3 s)"
     failed+=("$1")
   fi
-  rows+=("$1"$'\t\t\t'"$3")
+  rows+=("$1"$'\t\t'"$3")
 }
 
 # A part alone, shown as it comes.
@@ -31,7 +31,7 @@ run_part() { # NAME COMMAND...
 }
 
 show_table() {
-  tell "seconds by part: those of each, added, though several passed at a time; and those of the clock"
-  printf '%s\n' $'part\tnumber\tof each\tof the clock' "${rows[@]}" |
-    awk -F '\t' '{ row = sprintf("%-26s %7s %8s %13s", $1, $2, $3, $4); sub(/ +$/, "", row); print row }'
+  tell "seconds of the clock by part, some of which ran side by side"
+  printf '%s\n' $'part\tnumber\tseconds' "${rows[@]}" |
+    awk -F '\t' '{ row = sprintf("%-26s %7s %8s", $1, $2, $3); sub(/ +$/, "", row); print row }'
 }

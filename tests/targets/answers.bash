@@ -9,7 +9,6 @@ need_compilers() { # TARGET
   local cxx=${compiler[0]/%gcc/g++}
   case $cxx in
     g++) need "$cxx" g++ ;;
-    x86_64-linux-gnu-g++) need "$cxx" g++-x86-64-linux-gnu ;;
     aarch64-linux-gnu-g++) need "$cxx" g++-aarch64-linux-gnu ;;
     x86_64-w64-mingw32-g++) need "$cxx" g++-mingw-w64-x86-64-posix ;;
   esac
