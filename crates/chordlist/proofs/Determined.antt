@@ -1,7 +1,7 @@
 -- Determinacy of what `main` calls (`Rattle.answer.proofs.Determined` has the law): each contract allows one answer to each
 -- call, and one content of the ranges that it is lent.
 --     take_in_decides, finish_decides, reply_decides     the answer, and every byte lent
---     feed_decides       the answer, and the bytes that are kept: those behind them are of earlier lines
+--     feed_decides       where every write went well, the answer, and the bytes that are kept: those behind them are of earlier lines
 use denote.RattleType.{RattleType}
 use denote.Param.Laws.{Laws}
 use mir.Syntax.{Dict}

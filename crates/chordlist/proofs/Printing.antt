@@ -3,12 +3,15 @@
 --     no_text        a text of no bytes is printed by leaving all as it is
 --     by_count       a text printed, from its length and what the range holds
 --     two_more       two bytes stored behind a text
+--     with_error     what holds, holds with an error too
 use Rattle.answer.proofs.Kit.{◌≡◌, refl, sym, ap, ◌∙◌, Bool, true, true≢false, false, List, [], ◌∷◌, ◌++◌, ℕ, ◌+◌, ◌≤◌, arith, unary_clauses, leb, length, take, drop, set, length-append, length-drop, sets, sets-eq, take_at, take-append_seam, drop-append-add, drop-drop, leb-true}
 use Rattle.answer.specs.Replies.{output_of, room_after}
 use Rattle.answer.specs.declared.output.Output.TheVariants.{Written, Refused}
 use Rattle.answer.specs.declared.refusal.Refusal.TheVariants.{NoRoom}
 use Rattle.answer.proofs.Rooms.{written}
 use Rattle.chordlist.specs.private.Calls.{Printed}
+use Rattle.std.specs.Result.{OnErr}
+use Rattle.std.proofs.Common.{Result, Ok, Err}
 
 -- what stands at the front of a range, and that it has room
 pub record Fronted (t room : List ℕ) (n : ℕ) (left : List ℕ) : Type 0 where
@@ -51,3 +54,8 @@ two_more t room a b fits =
     by_count (t ++ (a ∷ b ∷ [])) room _ _ (sym (length-append t (a ∷ b ∷ []))) fits
     (stores ∙ sets-eq (a ∷ b ∷ []) l (length t) (omega arith)
     ∙ rw (take-append_seam t (drop (length t) room), drop-append-add t (drop (length t) room) 2, drop-drop 2 (length t) room))
+
+-- whatever came back
+pub with_error : {T E P : Type 0} (r : Result T E) → P → OnErr r P
+with_error (Ok v) p = tt
+with_error (Err e) p = p

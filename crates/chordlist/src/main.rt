@@ -27,8 +27,8 @@ fn feed<W: Write>(piece: &[u8], line: &mut [u8], length: usize, output: &mut W) 
     ensures held { IfOk result (λ kept. Writes line.old 0 (held_after (take length line.old) piece.now) kept line.new) }
     ensures said { OnOk result (Appends (W.contents output.old) (W.contents output.new) (said_by flats (take length line.old) piece.now)) }
 
-    // The error is the output's. The line keeps its size, and nobody reads it any more: with the error the program ends.
-    ensures failed { OnErr result (size line.new ≡ most_kept) }
+    // The error is the output's, of which std says nothing then. The line holds what is kept after some of the piece.
+    ensures failed { OnErr result ((taken : ℕ) × (kept : ℕ) × Writes line.old 0 (held_after (take length line.old) (take taken piece.now)) kept line.new) }
 {
     let mut out = [0u8; ROOM];
     let mut kept = length;
@@ -49,6 +49,9 @@ fn answer_all<R: Read, W: Write>(input: &mut R, output: &mut W) -> io::Result<()
     ensures answered { OnOk result ((read : List ℕ) × Consumes (R.remaining input.old) (R.remaining input.new) read
         × Appends (W.contents output.old) (W.contents output.new) (input_text flats read)) }
     ensures whole { OnOk result (IfSome (R.remaining input.old) (λ bytes. size bytes < 2 ^ 64 - 1 → IsAtEnd (R.remaining input.new))) }
+
+    // After an error of either, the input has lost the bytes that were read, and no others; of the output std says nothing.
+    ensures failed { OnErr result ((read : List ℕ) × Consumes (R.remaining input.old) (R.remaining input.new) read) }
 {
     let mut line = [0u8; KEPT];
     let mut length = 0;

@@ -7,7 +7,7 @@ use Rattle.std.specs.Io.KnownBytes.{Appends, Consumes}
 use Rattle.std.proofs.KnownBytes.{Appends-nil, Appends-trans, Consumes-nil, Consumes-trans}
 use Rattle.names.specs.Names.{flats}
 use Rattle.chordlist.specs.private.Pieces.{held_after, said_by}
-use Rattle.chordlist.proofs.Printing.{fronted}
+use Rattle.chordlist.proofs.Printing.{fronted, with_error}
 use Rattle.chordlist.proofs.Streams.{held_more, held_short, said_more, said_all}
 use Rattle.chordlist.proofs.answer_all.Goals as goal
 use Rattle.chordlist.proofs.answer_all.Goals.{else-loop-test, then-loop-test+in_ok-count+then-count-eq0}
@@ -50,6 +50,12 @@ slice_bounds-write_all-end g c = sym (length-take-le _ _ (omega (arith, (fronted
 -- a read of none leaves what was read
 none_more : (a b c : Option (List ℕ)) (bs cs : List ℕ) (n : ℕ) → n ≡ 0 → Consumes a b bs → Consumes b c (take n cs) → Consumes a c bs
 none_more a b c bs cs n e p q = rw append-nil at (Consumes-trans a b c bs [] p (rw e at q))
+
+pub returns-in_err-length-clause-failed : goal.returns-in_err-length-clause-failed
+returns-in_err-length-clause-failed g c =
+    let i = c.loop.invariant in
+    with_error c.from_residual-in_err-length.result
+    (i.read ++ take c.in_ok-count.count c.read.new.buf, Consumes-trans _ _ _ _ _ i.left c.in_ok-count.ensures.bytes.0)
 
 pub returns-clause-answered : goal.returns-clause-answered
 returns-clause-answered g c =

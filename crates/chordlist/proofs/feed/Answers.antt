@@ -1,11 +1,11 @@
 -- `chordlist::feed` meets its contract.
-use Rattle.answer.proofs.Kit.{◌≡◌, refl, sym, subst, ◌∙◌, arith, take, length-take-le, take-length}
+use Rattle.answer.proofs.Kit.{◌≡◌, refl, sym, subst, ◌∙◌, ◌+◌, arith, take, length-take-le, take-length}
 use Rattle.std.proofs.Common.{length as size}
 use Rattle.std.specs.Io.KnownBytes.{Appends}
 use Rattle.std.proofs.KnownBytes.{Appends-nil, Appends-trans}
 use Rattle.names.specs.Names.{flats}
 use Rattle.chordlist.specs.private.Pieces.{said_by}
-use Rattle.chordlist.proofs.Printing.{fronted}
+use Rattle.chordlist.proofs.Printing.{fronted, with_error}
 use Rattle.chordlist.proofs.Bytewise.{none_taken, one_taken, one_said}
 use Rattle.chordlist.proofs.feed.Goals as goal
 
@@ -45,6 +45,13 @@ loop-i-preserved g c =
           (one_said a.line.now a.piece.now a.length flats h.i h.kept h.line (omega arith) h.invariant.held)
           (Appends-trans _ _ _ _ _ h.invariant.said (rw (fronted c.take_in-taken.ensures.1).front at c.in_ok-write_all.ensures.bytes));
     }
+
+pub returns-in_err-write_all-clause-failed : goal.returns-in_err-write_all-clause-failed
+returns-in_err-write_all-clause-failed g c =
+    let h = c.loop-i in
+    let a = c.args in
+    with_error c.from_residual.result
+    (h.i + 1, c.take_in-taken.result.kept, one_taken a.line.now a.piece.now a.length h.i h.kept _ h.line _ (omega arith) h.invariant.held c.take_in-taken.ensures.0)
 
 pub returns : goal.returns
 returns g c =
