@@ -1,7 +1,8 @@
--- Determinacy of the exports' contracts (`Rattle.answer.proofs.Determined` has the law).
---     F-decides      the contract of `F` allows one answer to each call, and one content of the range that it is lent, or of the two numbers
-use Rattle.answer.proofs.Kit.{[], ◌∷◌, ap₂}
-use Rattle.answer.proofs.Determined.{Decides, DecidesWith, determined, both}
+-- The exports' contracts are those of the boundary's functions, so what is proved of these holds of the exports: here that each allows
+-- one answer to each call, and one content of the range that it is lent, or of the two numbers.
+use Rattle.answer.proofs.Kit.{[], ◌∷◌}
+use Rattle.answer.proofs.Determined.{Decides, DecidesWith}
+use Rattle.hemotusap.proofs.Determined as boundary
 use Rattle.hemotusap_c.proofs.naming.hemotusap_quality.Reads as quality
 use Rattle.hemotusap_c.proofs.moves.hemotusap_get_note.Reads as get-note
 use Rattle.hemotusap_c.proofs.moves.hemotusap_transpose.Reads as transpose
@@ -21,53 +22,52 @@ use Rattle.hemotusap_c.proofs.voices.hemotusap_voicing.Reads as voicing
 use Rattle.hemotusap_c.proofs.voices.hemotusap_voicing_within.Reads as voicing-within
 
 pub quality_decides : Decides quality.Post
-quality_decides κs a r r' s s' = determined
+quality_decides = boundary.quality_decides
 
 pub get_note_decides : Decides get-note.Post
-get_note_decides κs a r r' s s' = determined
+get_note_decides = boundary.get_note_decides
 
 pub transpose_decides : Decides transpose.Post
-transpose_decides κs a r r' s s' = determined
+transpose_decides = boundary.transpose_decides
 
 pub note_text_decides : DecidesWith note-text.Post (λ κs s. s.1.1.0.now)
-note_text_decides κs a r r' s s' = both
+note_text_decides = boundary.note_text_decides
 
 pub suffix_decides : DecidesWith suffix.Post (λ κs s. s.1.0.now)
-suffix_decides κs a r r' s s' = both
+suffix_decides = boundary.suffix_decides
 
 pub candidates_decides : DecidesWith candidates.Post (λ κs s. s.1.0.now)
-candidates_decides κs a r r' s s' = both
+candidates_decides = boundary.candidates_decides
 
 pub candidates_strict_decides : DecidesWith candidates-strict.Post (λ κs s. s.1.0.now)
-candidates_strict_decides κs a r r' s s' = both
+candidates_strict_decides = boundary.candidates_strict_decides
 
 pub candidates_sharp_decides : DecidesWith candidates-sharp.Post (λ κs s. s.1.0.now)
-candidates_sharp_decides κs a r r' s s' = both
+candidates_sharp_decides = boundary.candidates_sharp_decides
 
 pub candidates_strict_sharp_decides : DecidesWith candidates-strict-sharp.Post (λ κs s. s.1.0.now)
-candidates_strict_sharp_decides κs a r r' s s' = both
+candidates_strict_sharp_decides = boundary.candidates_strict_sharp_decides
 
 pub candidate_line_decides : DecidesWith candidate_line.Post (λ κs s. s.1.1.1.1.0.now ∷ s.1.1.1.1.1.0.now ∷ [])
-candidate_line_decides κs a r r' s s' p q =
-    (determined p.0 q.0, ap₂ (λ start length. start ∷ length ∷ []) (determined p.1 q.1) (determined p.2 q.2))
+candidate_line_decides = boundary.candidate_line_decides
 
 pub candidate_count_decides : Decides candidate-count.Post
-candidate_count_decides κs a r r' s s' = determined
+candidate_count_decides = boundary.candidate_count_decides
 
 pub candidate_decides : Decides candidate.Post
-candidate_decides κs a r r' s s' = determined
+candidate_decides = boundary.candidate_decides
 
 pub listing_decides : DecidesWith listing.Post (λ κs s. s.1.0.now)
-listing_decides κs a r r' s s' = both
+listing_decides = boundary.listing_decides
 
 pub tones_decides : DecidesWith tones.Post (λ κs s. s.1.1.0.now)
-tones_decides κs a r r' s s' = both
+tones_decides = boundary.tones_decides
 
 pub voicing_decides : DecidesWith voicing.Post (λ κs s. s.1.1.1.1.1.0.now)
-voicing_decides κs a r r' s s' = both
+voicing_decides = boundary.voicing_decides
 
 pub voicing_within_decides : DecidesWith voicing-within.Post (λ κs s. s.1.1.1.1.1.1.1.0.now)
-voicing_within_decides κs a r r' s s' = both
+voicing_within_decides = boundary.voicing_within_decides
 
 pub harmony_decides : DecidesWith harmony.Post (λ κs s. s.1.1.1.0.now)
-harmony_decides κs a r r' s s' = both
+harmony_decides = boundary.harmony_decides

@@ -48,20 +48,24 @@ wrote_first c =
 
 -- one line more, in the part of the buffer that is still free
 wrote_next : (c : After-put_line-used-in-loop-i)
+    → c.loop-i.used + 80 ≤ length c.loop-i.out
     → Puts c.loop-i.out c.loop-i.used (line (table_of c.args.names) (chord c.args.set (Class c.wide-root.result) c.wide-class.result))
     (c.loop-i.used + c.put_line-used-in-loop-i.result) (put_mid c.loop-i.used (length c.loop-i.out - c.loop-i.used) c.loop-i.out c.put_line-used-in-loop-i.new.out)
-wrote_next c =
+wrote_next c room =
     let name = name_text (table_of c.args.names) (table_brief c.args.names) c.wide-class.result _ c.class_name-name.ensures in
     let behind = c.over_name-behind.ensures.0 ∙ ap over (name_text (table_of c.args.names) (table_brief c.args.names) c.wide-root.result _ c.class_name-first.ensures) in
-    part_puts c.loop-i.out c.loop-i.used (length c.loop-i.out - c.loop-i.used) (omega (arith, c.loop-i.invariant.1, c.loop-i.invariant.0.puts.same, c.put_line-used.auto.out, c.requires.1, c.requires.3))
+    part_puts c.loop-i.out c.loop-i.used (length c.loop-i.out - c.loop-i.used) (omega arith)
     (same_text (line_of_pieces (table_of c.args.names) c.args.set (Class c.wide-root.result) c.wide-class.result _ _ name behind) c.put_line-used-in-loop-i.ensures) c.put_line-used-in-loop-i.auto.out
 
 -- which has at most 33 bytes
-short_next : (c : After-put_line-used-in-loop-i) → c.put_line-used-in-loop-i.result ≤ 33
-short_next c =
-    let at = c.requires.2 c.loop-i.i (omega arith) in
-    let k : (c.wide-class.result < 12) × (has c.args.set c.wide-class.result ≡ true) = (rw c.wide-class.ensures at.0, rw c.wide-class.ensures at.1) in
-    omega (arith, (wrote_next c).wrote.place, line_length (table_of c.args.names) (table_brief c.args.names) (chord c.args.set (Class c.wide-root.result) c.wide-class.result) (chord_rooted c.args.set (Class c.wide-root.result) c.wide-class.result k.0 k.1))
+short_next : (c : After-put_line-used-in-loop-i)
+    → c.loop-i.used + 80 ≤ length c.loop-i.out
+    → (c.wide-class.result < 12) × (has c.args.set c.wide-class.result ≡ true)
+    → c.put_line-used-in-loop-i.result ≤ 33
+short_next c room is =
+    let line_of = chord c.args.set (Class c.wide-root.result) c.wide-class.result in
+    let rooted = chord_rooted c.args.set (Class c.wide-root.result) c.wide-class.result is.0 is.1 in
+    omega (arith, (wrote_next c room).wrote.place, line_length (table_of c.args.names) (table_brief c.args.names) line_of rooted)
 
 pub returns-then-order-eq0 : goal.returns-then-order-eq0
 returns-then-order-eq0 c = none_listed _ _ _ _ c.if-order-eq0.true
@@ -70,7 +74,9 @@ pub over_name-behind-requires : goal.over_name-behind-requires
 over_name-behind-requires c = first_long (goal.at.over_name-behind-requires c).After-class_name-first
 
 pub put_line-used-requires : goal.put_line-used-requires
-put_line-used-requires c = (first_long (goal.at.put_line-used-requires c).After-class_name-first, (first_is (goal.at.put_line-used-requires c).After-wide-root).0, c.requires.0, (first_is (goal.at.put_line-used-requires c).After-wide-root).1, omega arith, omega (arith, c.requires.3))
+put_line-used-requires c =
+    let p = goal.at.put_line-used-requires c in
+    let is = first_is p.After-wide-root in (first_long p.After-class_name-first, is.0, c.requires.0, is.1, omega arith, omega (arith, c.requires.3))
 
 pub loop-i-init : goal.loop-i-init
 loop-i-init c = let k = first_is (goal.at.loop-i-init c).After-wide-root in
@@ -84,22 +90,33 @@ pub slice_bounds-put_line-start : goal.slice_bounds-put_line-start
 slice_bounds-put_line-start c = omega (arith, roomy (goal.at.slice_bounds-put_line-start c).In-loop-i)
 
 pub put_line-used-requires-in-loop-i : goal.put_line-used-requires-in-loop-i
-put_line-used-requires-in-loop-i c = (
-  name_long (table_of c.args.names) (table_brief c.args.names) c.wide-class.result _ c.class_name-name.ensures,
-  (next_is (goal.at.put_line-used-requires-in-loop-i c).After-wide-class).0,
-  c.requires.0,
-  (next_is (goal.at.put_line-used-requires-in-loop-i c).After-wide-class).1,
-  c.over_name-behind.ensures.1,
-  part_long c.loop-i.out c.loop-i.used 80 (roomy (goal.at.put_line-used-requires-in-loop-i c).In-loop-i),
-)
+put_line-used-requires-in-loop-i c =
+    let p = goal.at.put_line-used-requires-in-loop-i c in
+    let is = next_is p.After-wide-class in (
+      name_long (table_of c.args.names) (table_brief c.args.names) c.wide-class.result _ c.class_name-name.ensures,
+      is.0,
+      c.requires.0,
+      is.1,
+      c.over_name-behind.ensures.1,
+      part_long c.loop-i.out c.loop-i.used 80 (roomy p.In-loop-i),
+    )
 
 pub overflow_add-used : goal.overflow_add-used
-overflow_add-used c = omega (arith, short_next (goal.at.overflow_add-used c).After-put_line-used-in-loop-i, roomy (goal.at.overflow_add-used c).In-loop-i)
+overflow_add-used c =
+    let p = goal.at.overflow_add-used c in
+    let room = roomy p.In-loop-i in
+    omega (arith, short_next p.After-put_line-used-in-loop-i room (next_is p.After-wide-class), room)
 
 pub loop-i-preserved : goal.loop-i-preserved
-loop-i-preserved c = let order = c.args.order.now in
-    let next = one_line (table_of c.args.names) c.args.set order (Class c.wide-root.result) c.loop-i.i c.wide-class.result c.wide-class.ensures (omega arith) in
-    (so_far_next c.loop-i.invariant.0 _ _ next (wrote_next (goal.at.loop-i-preserved c).After-put_line-used-in-loop-i), omega (arith, short_next (goal.at.loop-i-preserved c).After-put_line-used-in-loop-i, c.loop-i.invariant.1), omega arith)
+loop-i-preserved c =
+    let order = c.args.order.now in
+    let p = goal.at.loop-i-preserved c in
+    let room = roomy p.In-loop-i in
+    let next = one_line (table_of c.args.names) c.args.set order (Class c.wide-root.result) c.loop-i.i c.wide-class.result c.wide-class.ensures (omega arith) in (
+      so_far_next c.loop-i.invariant.0 _ _ next (wrote_next p.After-put_line-used-in-loop-i room),
+      omega (arith, short_next p.After-put_line-used-in-loop-i room (next_is p.After-wide-class), c.loop-i.invariant.1),
+      omega arith,
+    )
 
 pub returns : goal.returns
 unfolding lines flat_map

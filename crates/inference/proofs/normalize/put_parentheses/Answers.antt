@@ -42,24 +42,18 @@ one c =
 
 two : (c : After-put_parts-after_adds)
     → let d = c.args.descriptor in
-    Listing c.args.buffer.now c.args.start (altered d ++ added c.add_where-first.result d) c.put_parts-after_adds.result c.put_parts-after_adds.new.buffer
-two c =
-    let d = c.args.descriptor in
-    then_parts
-    (then_parts (no_parts c.args.buffer.now c.args.start) (altered d) c.put_parts-after_alterations.ensures c.put_parts-after_alterations.auto.buffer)
-    (added c.add_where-first.result d) c.put_parts-after_adds.ensures c.put_parts-after_adds.auto.buffer
+    Listing c.args.buffer.now c.args.start (altered d) c.put_parts-after_alterations.result c.put_parts-after_alterations.new.buffer
+    → Listing c.args.buffer.now c.args.start (altered d ++ added c.add_where-first.result d) c.put_parts-after_adds.result c.put_parts-after_adds.new.buffer
+two c written =
+    then_parts written (added c.add_where-first.result c.args.descriptor) c.put_parts-after_adds.ensures c.put_parts-after_adds.auto.buffer
 
 three : (c : After-put_parts-after_third)
     → let d = c.args.descriptor in
-    Listing c.args.buffer.now c.args.start (altered d ++ added c.add_where-first.result d ++ lastly c.add_where-then.result d)
+    Listing c.args.buffer.now c.args.start (altered d ++ added c.add_where-first.result d) c.put_parts-after_adds.result c.put_parts-after_adds.new.buffer
+    → Listing c.args.buffer.now c.args.start (altered d ++ added c.add_where-first.result d ++ lastly c.add_where-then.result d)
     c.put_parts-after_third.result c.put_parts-after_third.new.buffer
-three c =
-    let d = c.args.descriptor in
-    then_parts
-    (then_parts
-    (then_parts (no_parts c.args.buffer.now c.args.start) (altered d) c.put_parts-after_alterations.ensures c.put_parts-after_alterations.auto.buffer)
-    (added c.add_where-first.result d) c.put_parts-after_adds.ensures c.put_parts-after_adds.auto.buffer)
-    (lastly c.add_where-then.result d) c.put_parts-after_third.ensures c.put_parts-after_third.auto.buffer
+three c written =
+    then_parts written (lastly c.add_where-then.result c.args.descriptor) c.put_parts-after_third.ensures c.put_parts-after_third.auto.buffer
 
 pub put_parts-after_alterations-requires : goal.put_parts-after_alterations-requires
 put_parts-after_alterations-requires c =
@@ -83,7 +77,8 @@ put_parts-after_adds-requires c =
 pub put_parts-after_third-requires : goal.put_parts-after_third-requires
 put_parts-after_third-requires c =
     let d = c.args.descriptor in
-    let written = two (goal.at.put_parts-after_third-requires c).After-put_parts-after_adds in (
+    let p = goal.at.put_parts-after_third-requires c in
+    let written = two p.After-put_parts-after_adds (one p.After-put_parts-after_alterations) in (
       c.requires.0.third,
       starts_before written,
       fits written (lastly c.add_where-then.result d) (omitted d) _ (four_lists (goal.at.put_parts-after_third-requires c).After-add_where-then) c.requires.1,
@@ -92,7 +87,8 @@ put_parts-after_third-requires c =
 pub put_parts-after_omits-requires : goal.put_parts-after_omits-requires
 put_parts-after_omits-requires c =
     let d = c.args.descriptor in
-    let written = three (goal.at.put_parts-after_omits-requires c).After-put_parts-after_third in (
+    let p = goal.at.put_parts-after_omits-requires c in
+    let written = three p.After-put_parts-after_third (two p.After-put_parts-after_adds (one p.After-put_parts-after_alterations)) in (
       c.requires.0.omits,
       starts_before written,
       fits written (omitted d) [] _ (append-nil _ ∙ four_lists (goal.at.put_parts-after_omits-requires c).After-add_where-then) c.requires.1,
@@ -102,7 +98,9 @@ pub returns : goal.returns
 returns c =
     let a = c.args in
     let told = four_lists (goal.at.returns c).After-add_where-then in
-    let four = then_parts (three (goal.at.returns c).After-put_parts-after_third) (omitted a.descriptor) c.put_parts-after_omits.ensures c.put_parts-after_omits.auto.buffer in
+    let p = goal.at.returns c in
+    let written = three p.After-put_parts-after_third (two p.After-put_parts-after_adds (one p.After-put_parts-after_alterations)) in
+    let four = then_parts written (omitted a.descriptor) c.put_parts-after_omits.ensures c.put_parts-after_omits.auto.buffer in
     subst (λ (x : List (List ℕ)). Writes a.buffer.now a.start (parenthesized x) c.put.result c.put.new.buffer) told
     (closed four _ _ _ c.either.ensures
     (subst (λ (x : List (List ℕ)). a.start + length (parenthesized x) + 8 ≤ length a.buffer.now) (sym told) c.requires.1) c.put.ensures)
