@@ -6,8 +6,7 @@
 --     first_is        so it is with `first_where`
 --     first_found     and what is the first is found
 --     none_found      nothing, where the test finds none
-use mathlib.Core.Option.{Option, none, some}
-use Rattle.answer.proofs.Kit.{◌≡◌, refl, sym, ap, ◌∙◌, Bool, true, false, cond, List, [], ◌∷◌, ◌++◌, Memᴰ, Memᴰ-head, Memᴰ-tail, Memᴰ-not_nil, Memᴰ-cases_cons, ⊎_elim, ℕ, suc, ◌<◌, arith, length, length-append}
+use Rattle.answer.proofs.Kit.{◌≡◌, refl, sym, ap, ◌∙◌, Bool, true, false, cond, List, [], ◌∷◌, ◌++◌, Memᴰ, Memᴰ-head, Memᴰ-tail, Memᴰ-not_nil, Memᴰ-cases_cons, ⊎_elim, ℕ, suc, ◌<◌, arith, length, length-append, Option, None, Some}
 use Rattle.answer.specs.First.{further, first_where}
 
 pub record IsFirst {A : Type 0} (Wanted Other : A → Type 0) (l : List A) (place : ℕ) (x : A) : Type 0 where
@@ -40,11 +39,11 @@ module _ {A : Type 0} (test : A → Bool) where
   Fails x = test x ≡ false
 
   abbrev pub Finds : List A → Option (ℕ × A) → Type 0
-  Finds l none = (y : A) → Memᴰ y l → Fails y
-  Finds l (some first) = IsFirst Passes Fails l first.0 first.1
+  Finds l None = (y : A) → Memᴰ y l → Fails y
+  Finds l (Some first) = IsFirst Passes Fails l first.0 first.1
 
   -- one more in front that the test does not find
-  also_not : (x : A) (l : List A) → Fails x → Finds l none → Finds (x ∷ l) none
+  also_not : (x : A) (l : List A) → Fails x → Finds l None → Finds (x ∷ l) None
   also_not x l e h y m = ⊎_elim (λ same. rw same e) (λ more. h y more) (Memᴰ-cases_cons m)
 
   pub first_is : (l : List A) → Finds l (first_where test l)
@@ -53,8 +52,8 @@ module _ {A : Type 0} (test : A → Bool) where
   first_is (x ∷ l) = by_test (test x) refl (first_where test l) (first_is l)
     where
       behind_it : Fails x → (o : Option (ℕ × A)) → Finds l o → Finds (x ∷ l) (further o)
-      behind_it e none h = also_not x l e h
-      behind_it e (some first) h = record {
+      behind_it e None h = also_not x l e h
+      behind_it e (Some first) h = record {
         before = x ∷ h.before;
         behind = h.behind;
         stands = ap (λ (k : List A). x ∷ k) h.stands;
@@ -63,21 +62,21 @@ module _ {A : Type 0} (test : A → Bool) where
         earlier = also_not x h.before e h.earlier;
       }
 
-      by_test : (b : Bool) → test x ≡ b → (o : Option (ℕ × A)) → Finds l o → Finds (x ∷ l) (cond b (some (0, x)) (further o))
+      by_test : (b : Bool) → test x ≡ b → (o : Option (ℕ × A)) → Finds l o → Finds (x ∷ l) (cond b (Some (0, x)) (further o))
       by_test true e o h = record { before = []; behind = l; stands = refl; its_place = refl; found = e; earlier = λ y m. absurd (Memᴰ-not_nil m) }
       by_test false e o h = behind_it e o h
 
-  stands_first : (before : List A) (x : A) (behind : List A) → Passes x → Finds before none
-      → first_where test (before ++ (x ∷ behind)) ≡ some (length before, x)
+  stands_first : (before : List A) (x : A) (behind : List A) → Passes x → Finds before None
+      → first_where test (before ++ (x ∷ behind)) ≡ Some (length before, x)
   unfolding first_where
   stands_first [] x behind e h = rw e
   stands_first (b ∷ before) x behind e h = rw (h b (Memᴰ-head refl)) (ap further (stands_first before x behind e (λ y m. h y (Memᴰ-tail m))))
 
-  pub first_found : (l : List A) (place : ℕ) (x : A) → IsFirst Passes Fails l place x → first_where test l ≡ some (place, x)
+  pub first_found : (l : List A) (place : ℕ) (x : A) → IsFirst Passes Fails l place x → first_where test l ≡ Some (place, x)
   first_found l place x h =
-      ap (first_where test) h.stands ∙ stands_first h.before x h.behind h.found h.earlier ∙ ap (λ (n : ℕ). some (n, x)) (sym h.its_place)
+      ap (first_where test) h.stands ∙ stands_first h.before x h.behind h.found h.earlier ∙ ap (λ (n : ℕ). Some (n, x)) (sym h.its_place)
 
-  pub none_found : (l : List A) → Finds l none → first_where test l ≡ none
+  pub none_found : (l : List A) → Finds l None → first_where test l ≡ None
   unfolding first_where
   none_found [] h = refl
   none_found (x ∷ l) h = rw (h x (Memᴰ-head refl)) (ap further (none_found l (λ y m. h y (Memᴰ-tail m))))

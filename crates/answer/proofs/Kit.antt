@@ -28,3 +28,4 @@ pub use lib.Signed.{clash_ℤ, le_z, le_z_yes, lt_z, lt_z_no, lt_z_yes, mag, non
 pub use borrow.Author.Rules.{rules}
 pub use borrow.Author.Tests.{eq-eqb, eqb-false, eqb-true, le-leb, le-ltb, leb-false, leb-true, lt-leb, lt-ltb, ltb-false, ne_eqb, not-false, not-true}
 pub use denote.Ref.{Bor, MutBor}
+pub use Rattle.std.specs.Prelude.{Err, None, Ok, Option, Result, Some, ⊤}

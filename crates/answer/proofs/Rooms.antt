@@ -5,24 +5,23 @@
 --     written       a text that has room stands at the front
 --     roomy         a room of so many bytes is enough for a text of at most so many
 --     copied        a turn of the loop that writes it
-use Rattle.answer.proofs.Kit.{◌≡◌, refl, sym, subst, List, ◌++◌, ℕ, ◌+◌, ◌≤◌, ◌<◌, zero-add, le_trans, add-one, length, take, drop, get_or, set, paste-suc, le-leb, lt-leb}
+use Rattle.answer.proofs.Kit.{◌≡◌, refl, sym, subst, List, ◌++◌, ℕ, ◌+◌, ◌≤◌, ◌<◌, zero-add, le_trans, add-one, length, take, drop, get_or, set, paste-suc, le-leb, lt-leb, Ok, Err}
 use Rattle.answer.specs.Replies.{Reply, refuse, text, output_of, room_after, Answered, AtMost, unhindered}
 use Rattle.answer.specs.declared.refusal.Refusal.{Refusal}
 use Rattle.answer.specs.declared.refusal.Refusal.TheVariants.{NoRoom}
-use Rattle.answer.specs.declared.output.Output.TheVariants.{Written, Refused}
 
-pub refused : (why : Refusal) (room : List ℕ) → Answered (refuse why) room (Refused why) room
+pub refused : (why : Refusal) (room : List ℕ) → Answered (refuse why) room (Err why) room
 unfolding output_of room_after
 refused why room = (refl, refl)
 
-pub refused_by : (why : Refusal) (reply : Reply) (room : List ℕ) → reply ≡ refuse why → Answered reply room (Refused why) room
-refused_by why reply room e = subst (λ (x : Reply). Answered x room (Refused why) room) (sym e) (refused why room)
+pub refused_by : (why : Refusal) (reply : Reply) (room : List ℕ) → reply ≡ refuse why → Answered reply room (Err why) room
+refused_by why reply room e = subst (λ (x : Reply). Answered x room (Err why) room) (sym e) (refused why room)
 
-pub no_room : (t room : List ℕ) → length room < length t → Answered (text t) room (Refused NoRoom) room
+pub no_room : (t room : List ℕ) → length room < length t → Answered (text t) room (Err NoRoom) room
 unfolding output_of room_after
 no_room t room h = (simp (lt-leb _ _ h), simp (lt-leb _ _ h))
 
-pub written : (t room : List ℕ) → length t ≤ length room → Answered (text t) room (Written (length t)) (t ++ drop (length t) room)
+pub written : (t room : List ℕ) → length t ≤ length room → Answered (text t) room (Ok (length t)) (t ++ drop (length t) room)
 unfolding output_of room_after
 written t room h = (simp (le-leb _ _ h), simp (le-leb _ _ h))
 

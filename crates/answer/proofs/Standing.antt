@@ -1,8 +1,7 @@
 -- Where the lines of a text stand.
 --     line_bytes     from where a line of a number begins, so many bytes are the line
 --     line_within    and it ends before the text does: at its LF
-use mathlib.Core.Option.{some}
-use Rattle.answer.proofs.Kit.{◌≡◌, refl, sym, ap, ◌∙◌, Bool, true, true≢false, false, cond, List, [], ◌∷◌, ◌++◌, append_assoc, flat_map, ℕ, zero, suc, ◌+◌, ◌<◌, arith, eqb, eqb-true, length, length-append, take, drop, drop_at, take_at}
+use Rattle.answer.proofs.Kit.{◌≡◌, refl, sym, ap, ◌∙◌, Bool, true, true≢false, false, cond, List, [], ◌∷◌, ◌++◌, append_assoc, flat_map, ℕ, zero, suc, ◌+◌, ◌<◌, arith, eqb, eqb-true, length, length-append, take, drop, drop_at, take_at, Some}
 use Rattle.answer.specs.Lines.{line_feed, begun_with, lines_of, numbered_in, line_at, ended, line_start}
 
 -- the first line of a text begins it, and the others are those of the rest
@@ -40,7 +39,7 @@ record Stands (text before line : List ℕ) : Type 0 where
   behind : List ℕ
   is : text ≡ before ++ (ended line ++ behind)
 
-stands : (n : ℕ) (text line : List ℕ) (lines : List (List ℕ)) → lines_of text ≡ lines → numbered_in lines n ≡ some line → Stands text (flat_map ended (take n lines)) line
+stands : (n : ℕ) (text line : List ℕ) (lines : List (List ℕ)) → lines_of text ≡ lines → numbered_in lines n ≡ Some line → Stands text (flat_map ended (take n lines)) line
 unfolding numbered_in flat_map
 stands n text line [] e found = absurd (true≢false cc)
 stands zero text line (l ∷ more) e found =
@@ -55,7 +54,7 @@ stands (suc n) text line (l ∷ more) e found =
       is = b.is ∙ ap (λ (t : List ℕ). ended l ++ t) next.is ∙ sym (append_assoc (ended l) (flat_map ended (take n more)) (ended line ++ next.behind));
     }
 
-module _ (text : List ℕ) (n : ℕ) (line : List ℕ) (e : line_at text n ≡ some line) where
+module _ (text : List ℕ) (n : ℕ) (line : List ℕ) (e : line_at text n ≡ Some line) where
   abbrev before : List ℕ
   before = flat_map ended (take n (lines_of text))
 

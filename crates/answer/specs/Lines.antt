@@ -1,7 +1,6 @@
 -- Texts of lines: paper 02, Q-9 ("A line ends at its LF; bytes behind the last LF are no line").
-use Rattle.std.specs.Prelude.{cond, ℕ, zero, suc, ◌+◌, eqb, length, take}
+use Rattle.std.specs.Prelude.{cond, ℕ, zero, suc, ◌+◌, eqb, length, take, Option, None, Some}
 use mathlib.Core.List.{List, [], ◌∷◌, ◌++◌, flat_map}
-use Rattle.std.proofs.Math.Option.{Option, none, some}
 
 -- the byte LF
 abbrev pub line_feed : ℕ
@@ -24,8 +23,8 @@ lines_of (b ∷ more) = cond (eqb b line_feed) ([] ∷ lines_of more) (begun_wit
 
 -- of some lines the one of a number from 0, or none
 unfoldable pub numbered_in : List (List ℕ) → ℕ → Option (List ℕ)
-numbered_in [] n = none
-numbered_in (line ∷ more) zero = some line
+numbered_in [] n = None
+numbered_in (line ∷ more) zero = Some line
 numbered_in (line ∷ more) (suc n) = numbered_in more n
 
 -- a text's line of a number from 0

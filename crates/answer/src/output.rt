@@ -4,23 +4,15 @@ ghost use Rattle.answer.specs.Replies.{text, Answered};
 use crate::refusal::Refusal;
 
 // What a call that writes answers: the count of bytes written, or why it wrote none.
-#[derive(Clone, Copy)]
-pub enum Output {
-    Written(usize),
-    Refused(Refusal),
-}
+pub type Output = Result<usize, Refusal>;
 
 // Writes the whole of `from` to the front of `out`, or refuses where there is no room for it.
-pub fn give(from: &[u8], out: &mut [u8]) -> Output
+pub fn give(from: &[u8], out: &mut [u8]) -> Result<usize, Refusal>
     ensures { Answered (text from.now) out.old result out.new }
 {
     if out.len() < from.len() {
-        return Output::Refused(Refusal::NoRoom);
+        return Err(Refusal::NoRoom);
     }
-    let mut i = 0;
-    while i < from.len() {
-        out[i] = from[i];
-        i += 1;
-    }
-    Output::Written(i)
+    out[..from.len()].copy_from_slice(from);
+    Ok(from.len())
 }

@@ -3,7 +3,7 @@ ghost use Rattle.std.specs.Prelude.{◌≡◌};
 ghost use Rattle.answer.specs.Refusals.{told_of};
 
 // A bad pair's place is its position among the pairs, from 0, and that of a code that is no key its position in the list.
-#[derive(Clone, Copy)]
+#[derive(Clone, Copy, PartialEq, Eq, Debug)]
 pub enum Refusal {
     NotASet,
     BadClass,
@@ -15,19 +15,6 @@ pub enum Refusal {
     NotAKey(usize),
     BadRange,
     NoRoom,
-}
-
-// What a test of the input answers.
-#[derive(Clone, Copy)]
-pub enum Checked {
-    Passed,
-    Refused(Refusal),
-}
-
-#[derive(Clone, Copy)]
-pub enum Place {
-    None,
-    At(usize),
 }
 
 impl Refusal {
@@ -48,20 +35,14 @@ impl Refusal {
         }
     }
 
-    pub fn place(self) -> Place
+    pub fn place(self) -> Option<usize>
         ensures { result ≡ (told_of self).place }
     {
         match self {
-            Refusal::NotASet => Place::None,
-            Refusal::BadClass => Place::None,
-            Refusal::TooManyPairs => Place::None,
-            Refusal::BadPairClass(place) => Place::At(place),
-            Refusal::BadPairInterval(place) => Place::At(place),
-            Refusal::BadNote => Place::None,
-            Refusal::BadMove => Place::None,
-            Refusal::NotAKey(place) => Place::At(place),
-            Refusal::BadRange => Place::None,
-            Refusal::NoRoom => Place::None,
+            Refusal::BadPairClass(place) | Refusal::BadPairInterval(place) | Refusal::NotAKey(place) => {
+                Some(place)
+            }
+            _ => None,
         }
     }
 }

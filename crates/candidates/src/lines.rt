@@ -12,7 +12,8 @@ ghost use Rattle.candidates.specs.Candidates.{chords, over, lines, candidates_of
 ghost use Rattle.candidates.specs.private.Finds.{Classes};
 
 use crate::keys::{find, seen_from, wide};
-use answer::output::{Output, give};
+use answer::output::give;
+use answer::refusal::Refusal;
 use answer::word::put;
 use inference::normalize::put_suffix;
 use names::table::{Names, class_name};
@@ -66,7 +67,7 @@ fn put_lines(out: &mut [u8], names: Names, order: &[u8], set: u32) -> usize
 const ROOM: usize = 448;
 
 // The candidates of a list of keys, a line each, with the names that are asked for.
-pub fn candidates_in(names: Names, keys: &[u8], out: &mut [u8]) -> Output
+pub fn candidates_in(names: Names, keys: &[u8], out: &mut [u8]) -> Result<usize, Refusal>
     ensures { Answered (text (candidates_of (table_of names) keys.now)) out.old result out.new }
 {
     let mut order = [0u8; 12];
@@ -78,7 +79,7 @@ pub fn candidates_in(names: Names, keys: &[u8], out: &mut [u8]) -> Output
 }
 
 // The candidates with the flat names, which are those of the Rust.
-pub fn candidates(keys: &[u8], out: &mut [u8]) -> Output
+pub fn candidates(keys: &[u8], out: &mut [u8]) -> Result<usize, Refusal>
     ensures { Answered (text (candidates_of flats keys.now)) out.old result out.new }
 {
     candidates_in(Names::Flats, keys, out)

@@ -2,14 +2,13 @@
 -- call, and one content of the ranges that it is lent.
 --     take_in_decides, finish_decides, reply_decides     the answer, and every byte lent
 --     feed_decides       where every write went well, the answer, and the bytes that are kept: those behind them are of earlier lines
+use Rattle.answer.specs.declared.refusal.Refusal.{Refusal}
 use denote.RattleType.{RattleType}
 use denote.Param.Laws.{Laws}
 use mir.Syntax.{Dict}
 use Rattle.std.proofs.Common.{Result, Ok}
 use Rattle.std.specs.declared.io.traits.Write.{Ghosts as Write}
 use Rattle.answer.proofs.Kit.{◌≡◌, ap₂, List, ℕ, take}
-use Rattle.answer.specs.declared.output.Output.{Output}
-use Rattle.answer.specs.declared.output.Output.TheVariants.{Written}
 use Rattle.answer.proofs.Determined.{DecidesWith, determined}
 use Rattle.chordlist.specs.declared.input.Taken.{Taken}
 use Rattle.chordlist.proofs.input.take_in.Reads as take_in
@@ -18,10 +17,10 @@ use Rattle.chordlist.proofs.reply.reply.Reads as reply
 use Rattle.chordlist.proofs.feed.Reads as feed
 
 -- an answer that says how much is written
-same_count : {n n' : ℕ} {told : Output} → Written n ≡ told → Written n' ≡ told → n ≡ n'
+same_count : {n n' : ℕ} {told : Result ℕ Refusal} → Ok n ≡ told → Ok n' ≡ told → n ≡ n'
 same_count p q = cc
 
-once : {n n' : ℕ} {told : Output} {l l' left : List ℕ} → (Written n ≡ told) × (l ≡ left) → (Written n' ≡ told) × (l' ≡ left) → (n ≡ n') × (l ≡ l')
+once : {n n' : ℕ} {told : Result ℕ Refusal} {l l' left : List ℕ} → (Ok n ≡ told) × (l ≡ left) → (Ok n' ≡ told) × (l' ≡ left) → (n ≡ n') × (l ≡ l')
 once p q = (same_count p.0 q.0, determined p.1 q.1)
 
 pub reply_decides : DecidesWith reply.Post (λ κs s. s.1.0.now)

@@ -6,7 +6,6 @@
 --     with_error     what holds, holds with an error too
 use Rattle.answer.proofs.Kit.{◌≡◌, refl, sym, ap, ◌∙◌, Bool, true, true≢false, false, List, [], ◌∷◌, ◌++◌, ℕ, ◌+◌, ◌≤◌, arith, unary_clauses, leb, length, take, drop, set, length-append, length-drop, sets, sets-eq, take_at, take-append_seam, drop-append-add, drop-drop, leb-true}
 use Rattle.answer.specs.Replies.{output_of, room_after}
-use Rattle.answer.specs.declared.output.Output.TheVariants.{Written, Refused}
 use Rattle.answer.specs.declared.refusal.Refusal.TheVariants.{NoRoom}
 use Rattle.answer.proofs.Rooms.{written}
 use Rattle.chordlist.specs.private.Calls.{Printed}
@@ -25,7 +24,7 @@ fronted {t} {room} {left} {n} p = go (leb (length t) (length room)) refl
   where
     go : (b : Bool) → leb (length t) (length room) ≡ b → Fronted t room n left
     go true e =
-        let count : Written n ≡ Written (length t) = p.0 ∙ rw e in
+        let count : Ok n ≡ Ok (length t) = p.0 ∙ rw e in
         let is : n ≡ length t = cc in
         let stands : left ≡ t ++ drop n room = p.1 ∙ rw (e, is) in
         record {
@@ -34,13 +33,13 @@ fronted {t} {room} {left} {n} p = go (leb (length t) (length room)) refl
           front = ap (take n) stands ∙ take_at t (drop n room) n (sym is);
         }
     go false e =
-        let told : Written n ≡ Refused NoRoom = p.0 ∙ rw e in
+        let told : Ok n ≡ Err NoRoom = p.0 ∙ rw e in
         absurd (true≢false cc)
 
 pub by_count : (t room left : List ℕ) (n : ℕ) → n ≡ length t → n ≤ length room → left ≡ t ++ drop n room → Printed t room n left
 by_count t room left n is fits stands =
     let w = written t room (omega arith) in
-    (ap Written is ∙ w.0, stands ∙ ap (λ (k : ℕ). t ++ drop k room) is ∙ w.1)
+    (ap Ok is ∙ w.0, stands ∙ ap (λ (k : ℕ). t ++ drop k room) is ∙ w.1)
 
 pub no_text : (room : List ℕ) → Printed [] room 0 room
 no_text room = by_count [] room room 0 refl (omega arith) refl

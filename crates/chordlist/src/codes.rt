@@ -13,13 +13,6 @@ const ZERO: u8 = 48;
 
 const NINE: u8 = 57;
 
-// How many codes were read, or that the line is bad.
-#[derive(Clone, Copy)]
-pub enum Codes {
-    Read(usize),
-    Bad,
-}
-
 // A code can end here.
 fn is_ended(value: u32, digits: u32) -> bool
     ensures { result ≡ ltb 0 digits && leb value 255 }
@@ -28,12 +21,12 @@ fn is_ended(value: u32, digits: u32) -> bool
 }
 
 // Reads the codes of a line to the front of `codes`.
-pub(crate) fn read_codes(line: &[u8], codes: &mut [u8]) -> Codes
+pub(crate) fn read_codes(line: &[u8], codes: &mut [u8]) -> Option<usize>
     requires { (length line.now ≤ 1024) × (512 ≤ length codes.old) }
     ensures { Reads line.now result codes.new }
 {
     if line.len() == 0 {
-        return Codes::Read(0);
+        return Some(0);
     }
     let mut value: u32 = 0;
     let mut digits: u32 = 0;
@@ -46,10 +39,10 @@ pub(crate) fn read_codes(line: &[u8], codes: &mut [u8]) -> Codes
             digits += 1;
         } else {
             if byte != SPACE {
-                return Codes::Bad;
+                return None;
             }
             if !is_ended(value, digits) {
-                return Codes::Bad;
+                return None;
             }
             codes[count] = (value % 256) as u8;
             count += 1;
@@ -59,8 +52,8 @@ pub(crate) fn read_codes(line: &[u8], codes: &mut [u8]) -> Codes
         i += 1;
     }
     if !is_ended(value, digits) {
-        return Codes::Bad;
+        return None;
     }
     codes[count] = (value % 256) as u8;
-    Codes::Read(count + 1)
+    Some(count + 1)
 }

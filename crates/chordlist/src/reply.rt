@@ -4,8 +4,7 @@ ghost use Rattle.names.specs.Names.{flats};
 ghost use Rattle.chordlist.specs.Replies.{bad_text, codes_text, line_text};
 ghost use Rattle.chordlist.specs.private.Calls.{most_printed, Printed};
 
-use crate::codes::{Codes, read_codes};
-use answer::output::Output;
+use crate::codes::read_codes;
 use strict::entry::candidates_strict;
 
 // Candidates have at most 840 bytes, and then comes the line `.`.
@@ -23,7 +22,7 @@ pub(crate) fn reply(line: &[u8], out: &mut [u8]) -> usize
 {
     if line.len() <= LONGEST {
         let mut codes = [0u8; CODES];
-        if let Codes::Read(count) = read_codes(line, &mut codes) {
+        if let Some(count) = read_codes(line, &mut codes) {
             return reply_codes(&codes[..count], out);
         }
     }
@@ -35,13 +34,13 @@ fn reply_codes(codes: &[u8], out: &mut [u8]) -> usize
     ensures { Printed (codes_text flats codes.now) out.old result out.new }
 {
     match candidates_strict(codes, out) {
-        Output::Written(count) => {
+        Ok(count) => {
             out[count] = b'.';
             out[count + 1] = b'\n';
             count + 2
         }
         // A code above 127, since there is room for all candidates.
-        Output::Refused(_) => reply_bad(out),
+        Err(_) => reply_bad(out),
     }
 }
 

@@ -1,10 +1,10 @@
 -- A description by its steps: what each step is told makes the whole.
 --     split        what the extensions become
 --     described    at a rooted set the descriptor
-use Rattle.answer.proofs.Kit.{◌≡◌, ap, ap₂, ◌∙◌, Bool, true, ℕ, bit_and, bit_or}
+use Rattle.intervals.specs.declared.interval.Interval.{Interval}
+use Rattle.answer.proofs.Kit.{◌≡◌, ap, ap₂, ◌∙◌, Bool, true, ℕ, bit_and, bit_or, Option}
 use Rattle.intervals.specs.Sets.{is_rooted}
 use Rattle.intervals.specs.Intervals.{set_of}
-use Rattle.intervals.specs.declared.interval.MaybeInterval.{MaybeInterval}
 use Rattle.qualities.specs.Masks.{own_bits, alteration_bits, extension_bits, stack_bits}
 use Rattle.qualities.specs.declared.quality.ChordQuality.{ChordQuality}
 use Rattle.intervals.specs.declared.interval.Interval.TheVariants.{Ninth}
@@ -20,7 +20,7 @@ use Rattle.descriptors.specs.Kinds.{kind_of}
 use Rattle.descriptors.specs.private.Split.{missed_by, Splits}
 use Rattle.descriptors.specs.Descriptors.{descriptor_of}
 
-pub split : (q : ChordQuality) (row : Kind) → row ≡ kind_of q → (a e u stack own : ℕ) (m : MaybeInterval) (found nine : ℕ)
+pub split : (q : ChordQuality) (row : Kind) → row ≡ kind_of q → (a e u stack own : ℕ) (m : Option Interval) (found nine : ℕ)
     → u ≡ unstacked_from (bit_or a e) row.3 stack → stack ≡ stack_bits q → own ≡ own_bits q
     → m ≡ modifier_from row.5 e u → found ≡ adds_from row.5 e u own → nine ≡ nine_from row.4 found → Splits q a e m found nine
 split q row t a e u stack own m found nine hu hs ho hm hf hn =
@@ -34,7 +34,7 @@ split q row t a e u stack own m found nine hu hs ho hm hf hn =
 
 module _ (s : ℕ) (is : is_rooted s ≡ true) where
   -- of its intervals and quality, the masks, what the steps gave
-  pub described : (i : ℕ) (q : ChordQuality) (altered extended e : ℕ) (m : MaybeInterval) (found behind third noThird noFifth : ℕ)
+  pub described : (i : ℕ) (q : ChordQuality) (altered extended e : ℕ) (m : Option Interval) (found behind third noThird noFifth : ℕ)
       → i ≡ set_of (intervals_of s) → q ≡ suffix_quality s → altered ≡ alteration_bits q → extended ≡ extension_bits q → e ≡ extensions_from i extended
       → Splits q (bit_and i altered) e m found behind
       → third ≡ last_from (sus_from s) i → noThird ≡ omitted_third_from s → noFifth ≡ omitted_fifth_from i

@@ -1,18 +1,16 @@
 -- A rooted set described: paper 01, "Sets and intervals" and "The suffix (002, 003)".
-use Rattle.std.specs.Prelude.{cond, ◌++◌, ℕ}
+use Rattle.answer.specs.declared.refusal.Refusal.{Refusal}
+use Rattle.qualities.specs.declared.quality.ChordQuality.{ChordQuality}
+use Rattle.std.specs.Prelude.{cond, ◌++◌, ℕ, Result, Ok, Err}
 use Rattle.answer.specs.declared.refusal.Refusal.TheVariants.{NotASet}
 use Rattle.intervals.specs.Sets.{is_rooted}
 use Rattle.intervals.specs.Intervals.{set_of}
 use Rattle.intervals.specs.declared.interval.Interval.TheVariants.{Ninth}
-use Rattle.qualities.specs.declared.quality.QualityAnswer.{QualityAnswer}
-use Rattle.qualities.specs.declared.quality.QualityAnswer.TheVariants as Quality
 use Rattle.rules.specs.Classes.{only, intervals_of}
 use Rattle.rules.specs.Parts.{suffix_quality, is_sus, alterations_of, last_add, omit_third, omit_fifth}
 use Rattle.rules.specs.Stack.{modifier_of, adds_of}
 use Rattle.rules.specs.Heading.{nine}
 use Rattle.descriptors.specs.declared.descriptor.Descriptor.{Descriptor}
-use Rattle.descriptors.specs.declared.descriptor.DescriptorAnswer.{DescriptorAnswer}
-use Rattle.descriptors.specs.declared.descriptor.DescriptorAnswer.TheVariants.{Is, Refused}
 
 -- its intervals, the quality that it shows, and what a suffix names of it, sets of intervals with a bit for each one's number
 unfoldable pub descriptor_of : ℕ → Descriptor
@@ -33,9 +31,9 @@ descriptor_of s =
     }
 
 -- what a call answers: the descriptor, or refusal 1
-unfoldable pub descriptor_answer : ℕ → DescriptorAnswer
-descriptor_answer s = cond (is_rooted s) (Is (descriptor_of s)) (Refused NotASet)
+unfoldable pub descriptor_answer : ℕ → Result Descriptor Refusal
+descriptor_answer s = cond (is_rooted s) (Ok (descriptor_of s)) (Err NotASet)
 
 -- the quality that a rooted set shows in its suffix, or refusal 1
-unfoldable pub shown_answer : ℕ → QualityAnswer
-shown_answer s = cond (is_rooted s) (Quality.Is (suffix_quality s)) (Quality.Refused NotASet)
+unfoldable pub shown_answer : ℕ → Result ChordQuality Refusal
+shown_answer s = cond (is_rooted s) (Ok (suffix_quality s)) (Err NotASet)

@@ -9,11 +9,7 @@ use crate::classes::{CLASS_3, CLASS_4, CLASS_5, CLASS_9, intervals};
 use crate::kinds::kind_of;
 use crate::showing::shown_quality;
 use answer::refusal::Refusal;
-use intervals::interval::{
-    AUGMENTED_FIFTH, DIMINISHED_FIFTH, ELEVENTH, FLAT_NINTH, FLAT_THIRTEENTH, Interval,
-    MAJOR_SEVENTH, MAJOR_SIXTH, MAJOR_THIRD, MaybeInterval, NINTH, PERFECT_FIFTH, SHARP_ELEVENTH,
-    SHARP_NINTH, THIRTEENTH,
-};
+use intervals::interval::{AUGMENTED_FIFTH, DIMINISHED_FIFTH, ELEVENTH, FLAT_NINTH, FLAT_THIRTEENTH, Interval, MAJOR_SEVENTH, MAJOR_SIXTH, MAJOR_THIRD, NINTH, PERFECT_FIFTH, SHARP_ELEVENTH, SHARP_NINTH, THIRTEENTH};
 use intervals::set::is_rooted;
 use qualities::quality::ChordQuality;
 
@@ -34,7 +30,7 @@ pub struct Descriptor {
     pub intervals: u32,
     pub quality: ChordQuality,
     pub sus: bool,
-    pub modifier: MaybeInterval,
+    pub modifier: Option<Interval>,
     pub alterations: u32,
     pub adds: u32,
     pub nine: u32,
@@ -42,16 +38,10 @@ pub struct Descriptor {
     pub omits: u32,
 }
 
-#[derive(Clone, Copy)]
-pub enum DescriptorAnswer {
-    Is(Descriptor),
-    Refused(Refusal),
-}
-
 // What the extensions become: the last that is stacked, the adds, and of these the 9 behind the `6`.
 #[derive(Clone, Copy)]
 pub struct Split {
-    pub modifier: MaybeInterval,
+    pub modifier: Option<Interval>,
     pub adds: u32,
     pub nine: u32,
 }
@@ -81,23 +71,23 @@ fn unstacked(named: u32, own: u32, stack: u32) -> u32
 }
 
 // The last of the extensions that are stacked: 13, or else 11, or else 9.
-fn modifier(diminished: bool, extensions: u32, unstacked: u32) -> MaybeInterval
+fn modifier(diminished: bool, extensions: u32, unstacked: u32) -> Option<Interval>
     ensures { result ≡ modifier_from diminished extensions unstacked }
 {
     if diminished {
-        return MaybeInterval::Nothing;
+        return None;
     }
     let stacked = extensions & !(unstacked | MAJOR_SEVENTH);
     if stacked >= THIRTEENTH {
-        return MaybeInterval::Is(Interval::Thirteenth);
+        return Some(Interval::Thirteenth);
     }
     if stacked >= ELEVENTH {
-        return MaybeInterval::Is(Interval::Eleventh);
+        return Some(Interval::Eleventh);
     }
     if stacked >= NINTH {
-        return MaybeInterval::Is(Interval::Ninth);
+        return Some(Interval::Ninth);
     }
-    MaybeInterval::Nothing
+    None
 }
 
 // No quality is made of class 2 or 5: of the extensions only a 13 can be its own.
@@ -165,11 +155,11 @@ fn omitted_fifth(intervals: u32) -> u32
 }
 
 // All that a suffix names of a rooted set, read off it once.
-pub fn describe(set: u32) -> DescriptorAnswer
+pub fn describe(set: u32) -> Result<Descriptor, Refusal>
     ensures { result ≡ descriptor_answer set }
 {
     if !is_rooted(set) {
-        return DescriptorAnswer::Refused(Refusal::NotASet);
+        return Err(Refusal::NotASet);
     }
     let found = intervals(set);
     let quality = shown_quality(set);
@@ -178,7 +168,7 @@ pub fn describe(set: u32) -> DescriptorAnswer
     let split = split_extensions(quality, alterations, extensions);
     let modifier = split.modifier;
     let sus = set & (CLASS_3 | CLASS_5) == CLASS_5;
-    DescriptorAnswer::Is(Descriptor {
+    Ok(Descriptor {
         set,
         intervals: found,
         quality,

@@ -7,15 +7,15 @@ ghost use Rattle.descriptors.specs.Descriptors.{shown_answer};
 use crate::classes::{CLASS_3, CLASS_4};
 use answer::refusal::Refusal;
 use intervals::set::is_rooted;
-use qualities::quality::{ChordQuality, QualityAnswer};
+use qualities::quality::ChordQuality;
 
-pub fn shown(set: u32) -> QualityAnswer
+pub fn shown(set: u32) -> Result<ChordQuality, Refusal>
     ensures { result ≡ shown_answer set }
 {
     if !is_rooted(set) {
-        return QualityAnswer::Refused(Refusal::NotASet);
+        return Err(Refusal::NotASet);
     }
-    QualityAnswer::Is(shown_quality(set))
+    Ok(shown_quality(set))
 }
 
 pub(crate) fn shown_quality(set: u32) -> ChordQuality
@@ -23,8 +23,8 @@ pub(crate) fn shown_quality(set: u32) -> ChordQuality
     ensures { result ≡ suffix_quality set }
 {
     match qualities::quality::quality(with_third(set)) {
-        QualityAnswer::Is(quality) => quality,
-        QualityAnswer::Refused(_) => ChordQuality::Maj,
+        Ok(quality) => quality,
+        Err(_) => ChordQuality::Maj,
     }
 }
 

@@ -4,13 +4,12 @@
 --     tail_short      a kind's name and the degrees of a set have no more than 987 bytes
 --     lossless        the theorem
 --     apart           so two elements are the same only where root, bass and set are
-use Rattle.answer.proofs.Kit.{◌≡◌, ap, sym, ◌∙◌, Bool, true, cond, ◌&&◌, List, [], ◌∷◌, map, ℕ, ◌+◌, ◌^◌, ◌<◌, ◌≤◌, arith, T, eqb, leb, ltb, eqb→eq, leb→le, ltb→lt, length}
+use Rattle.answer.proofs.Kit.{◌≡◌, ap, sym, ◌∙◌, Bool, true, cond, ◌&&◌, List, [], ◌∷◌, map, ℕ, ◌+◌, ◌^◌, ◌<◌, ◌≤◌, arith, T, eqb, leb, ltb, eqb→eq, leb→le, ltb→lt, length, Option, Some, None}
 use Rattle.answer.specs.Words.{bytes, same}
 use Rattle.answer.proofs.Tests.{left, right, is_true, said, all, at}
 use Rattle.intervals.specs.Bass.{is_bass}
 use Rattle.intervals.specs.Sets.{is_rooted, has_all}
 use Rattle.intervals.specs.Intervals.{class_of}
-use Rattle.intervals.specs.declared.bass.Bass.{Bass}
 use Rattle.intervals.proofs.Rooted.{at_rooted}
 use Rattle.qualities.specs.Qualities.{quality_of, quality_number}
 use Rattle.qualities.specs.declared.quality.ChordQuality.{ChordQuality}
@@ -144,15 +143,15 @@ unfolding plain is_name clean bytes
 node_clean e c = (rw (is_true (clean e) c) tt, rw (is_true (clean e) c) tt, rw (is_true (clean e) c) tt)
 
 -- a bass that is not refused
-pub class_of_lem : (b : ℕ) → is_bass (Bass.Class b) ≡ true → b < 12
+pub class_of_lem : (b : ℕ) → is_bass (Some b) ≡ true → b < 12
 class_of_lem b e = let h = leb→le b 11 (said _ e) in omega arith
 
-under_clean : (b : Bass) → is_bass b ≡ true → T (clean (bass_of flats b))
+under_clean : (b : Option ℕ) → is_bass b ≡ true → T (clean (bass_of flats b))
 unfolding clean
-under_clean Bass.None h = tt
-under_clean (Bass.Class b) h = (node_clean (as_bass b) (bass_clean b (class_of_lem b h))).1
+under_clean None h = tt
+under_clean (Some b) h = (node_clean (as_bass b) (bass_clean b (class_of_lem b h))).1
 
-module _ (root : ℕ) (b : Bass) (s : ℕ) (hr : root < 12) (hb : is_bass b ≡ true) (is : is_rooted s ≡ true) where
+module _ (root : ℕ) (b : Option ℕ) (s : ℕ) (hr : root < 12) (hb : is_bass b ≡ true) (is : is_rooted s ≡ true) where
   harmony_clean : T (clean (harmony flats root b s))
   unfolding harmony
   harmony_clean =
@@ -163,14 +162,14 @@ module _ (root : ℕ) (b : Bass) (s : ℕ) (hr : root < 12) (hb : is_bass b ≡ 
       (under_clean b hb))
       (row s is).all_clean)).2
 
-read_back : (root : ℕ) (b : Bass) (s : ℕ) → root < 12 → is_bass b ≡ true → is_rooted s ≡ true
+read_back : (root : ℕ) (b : Option ℕ) (s : ℕ) → root < 12 → is_bass b ≡ true → is_rooted s ≡ true
     → harmony_in (inside "harmony" (harmony flats root b s)) ≡ record { root = root; bass = b; set = sounding (tones_of (kind_of (suffix_quality s)).name) (degrees_of s) }
 unfolding harmony harmony_in inside text_in is_there bass_in degrees_in bytes same ◌then◌
-read_back root Bass.None s hr hb is = rw (root_back root hr, (row s is).no_bass, (row s is).back)
-read_back root (Bass.Class b) s hr hb is = rw (root_back root hr, bass_back b (class_of_lem b hb), (row s is).back)
+read_back root None s hr hb is = rw (root_back root hr, (row s is).no_bass, (row s is).back)
+read_back root (Some b) s hr hb is = rw (root_back root hr, bass_back b (class_of_lem b hb), (row s is).back)
 
 -- "for every rooted set, root and bass or none, what is read back from what is written is that root, that bass and that set"
-pub lossless : (root : ℕ) (b : Bass) (s : ℕ) → root < 12 → is_bass b ≡ true → is_rooted s ≡ true
+pub lossless : (root : ℕ) (b : Option ℕ) (s : ℕ) → root < 12 → is_bass b ≡ true → is_rooted s ≡ true
     → read_harmony (harmony_of flats root b s) ≡ record { root = root; bass = b; set = s }
 unfolding harmony_of read_harmony
 lossless root b s hr hb is =
@@ -179,7 +178,7 @@ lossless root b s hr hb is =
     ∙ rw (sounds s is)
 
 -- "So two candidates that differ have different elements"
-pub apart : (root root' : ℕ) (b b' : Bass) (s s' : ℕ) → root < 12 → is_bass b ≡ true → is_rooted s ≡ true → root' < 12 → is_bass b' ≡ true → is_rooted s' ≡ true
+pub apart : (root root' : ℕ) (b b' : Option ℕ) (s s' : ℕ) → root < 12 → is_bass b ≡ true → is_rooted s ≡ true → root' < 12 → is_bass b' ≡ true → is_rooted s' ≡ true
     → harmony_of flats root b s ≡ harmony_of flats root' b' s' → (root ≡ root') × (b ≡ b') × (s ≡ s')
 apart root root' b b' s s' hr hb is hr' hb' is' e =
     let all = sym (lossless root b s hr hb is) ∙ ap read_harmony e ∙ lossless root' b' s' hr' hb' is' in

@@ -3,9 +3,8 @@
 --     degree_text_lem  a degree: its value, alter and type between what every degree has
 --     degrees_long     how many bytes degrees have
 --     harmony_text     the whole: the root's element, the kind's name, the bass's element and the degrees, between what every harmony has
-use Rattle.answer.proofs.Kit.{◌≡◌, refl, ap, ap₂, ◌∙◌, List, [], ◌∷◌, ◌++◌, append_assoc, ℕ, ◌+◌, arith, length, length-append}
+use Rattle.answer.proofs.Kit.{◌≡◌, refl, ap, ap₂, ◌∙◌, List, [], ◌∷◌, ◌++◌, append_assoc, ℕ, ◌+◌, arith, length, length-append, Option}
 use Rattle.answer.specs.Words.{bytes}
-use Rattle.intervals.specs.declared.bass.Bass.{Bass}
 use Rattle.notes.specs.declared.note.Note.{Note}
 use Rattle.rules.specs.Parts.{suffix_quality}
 use Rattle.harmonies.specs.Xml.{Elements, none, element, ◌then◌, leaf, node, written}
@@ -59,7 +58,7 @@ harmony_row r k b d =
     rw (written_then (r then leaf "kind" k then b) d, written_then (r then leaf "kind" k) b, written_then r (leaf "kind" k))
     (simp append_assoc (harmony_tags (written r) k (written b) (written d)))
 
-pub harmony_text : (table : List Note) (root : ℕ) (b : Bass) (s : ℕ)
+pub harmony_text : (table : List Note) (root : ℕ) (b : Option ℕ) (s : ℕ)
     → harmony_of table root b s
     ≡ bytes "<harmony>" ++ written (root_of table root) ++ bytes "<kind>" ++ (kind_of (suffix_quality s)).name ++ bytes "</kind>" ++ written (bass_of table b)
     ++ written (degrees (degrees_of s)) ++ bytes "</harmony>"

@@ -1,10 +1,8 @@
 -- The `harmony` element of a rooted set on a root class, over a bass class or none: paper 02, Q-2, for any table of the classes as notes.
-use Rattle.std.specs.Prelude.{cond, List, [], ◌∷◌, ◌++◌, map, ℕ, suc, ◌+◌, ◌/◌, ◌%◌, leb, ℤ, pos, negsuc, get_or}
+use Rattle.std.specs.Prelude.{cond, List, [], ◌∷◌, ◌++◌, map, ℕ, suc, ◌+◌, ◌/◌, ◌%◌, leb, ℤ, pos, negsuc, get_or, Option, Some, None}
 use Prim.Native.String.{String}
 use Rattle.answer.specs.Words.{bytes}
-use Rattle.intervals.specs.declared.bass.Bass.{Bass}
 use Rattle.notes.specs.NoteText.{letter_name}
-use Rattle.notes.specs.declared.note.Accidental.{Accidental}
 use Rattle.notes.specs.declared.note.Note.{Note}
 -- the code's table, passed on to those that cite the element
 pub use Rattle.names.specs.Names.{flats}
@@ -23,9 +21,9 @@ integer (pos n) = decimal n
 integer (negsuc n) = bytes "-" ++ decimal (suc n)
 
 -- an accidental: "a root or bass alter of 0 is left out"
-abbrev pub altered : String → Accidental → Elements
-altered name Accidental.None = none
-altered name (Accidental.Count count) = leaf name (integer count)
+abbrev pub altered : String → Option ℤ → Elements
+altered name None = none
+altered name (Some count) = leaf name (integer count)
 
 -- a note as step and alter, by these names
 abbrev pub pitch : String → String → Note → Elements
@@ -40,9 +38,9 @@ abbrev pub root_of : List Note → ℕ → Elements
 root_of table root = node "root" (pitch_of "root-step" "root-alter" table root)
 
 -- the bass: "A bass that is handed in is written, whatever it is"
-abbrev pub bass_of : List Note → Bass → Elements
-bass_of table Bass.None = none
-bass_of table (Bass.Class bass) = node "bass" (pitch_of "bass-step" "bass-alter" table bass)
+abbrev pub bass_of : List Note → Option ℕ → Elements
+bass_of table None = none
+bass_of table (Some bass) = node "bass" (pitch_of "bass-step" "bass-alter" table bass)
 
 -- a degree: "a degree's alter never" is left out
 abbrev pub degree : Degree → Elements
@@ -56,12 +54,12 @@ degrees [] = none
 degrees (d ∷ more) = degree d then degrees more
 
 -- "Order inside: root, kind, bass, degrees"
-unfoldable pub harmony : List Note → ℕ → Bass → ℕ → Elements
+unfoldable pub harmony : List Note → ℕ → Option ℕ → ℕ → Elements
 harmony table root bass s =
     node "harmony" (root_of table root then leaf "kind" (kind_of (suffix_quality s)).name then bass_of table bass then degrees (degrees_of s))
 
 -- its bytes
-unfoldable pub harmony_of : List Note → ℕ → Bass → ℕ → List ℕ
+unfoldable pub harmony_of : List Note → ℕ → Option ℕ → ℕ → List ℕ
 harmony_of table root bass s = written (harmony table root bass s)
 
 -- "the longest has 1,147 bytes": proofs/Long.antt has the theorem

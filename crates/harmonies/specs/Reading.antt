@@ -1,8 +1,7 @@
 -- A `harmony` element read, by the names of its parts: MusicXML 4.0, `harmony`, `root`, `kind`, `bass`, `degree`.
-use Rattle.std.specs.Prelude.{Bool, false, cond, ◌||◌, List, [], ◌∷◌, ℕ, ◌+◌, ◌-◌, ◌*◌, eqb, ℤ, pos, neg_ℤ, ◌+ℤ◌}
+use Rattle.std.specs.Prelude.{Bool, false, cond, ◌||◌, List, [], ◌∷◌, ℕ, ◌+◌, ◌-◌, ◌*◌, eqb, ℤ, pos, neg_ℤ, ◌+ℤ◌, Option, Some, None}
 use Prim.Native.String.{String}
 use Rattle.answer.specs.Words.{bytes, same}
-use Rattle.intervals.specs.declared.bass.Bass.{Bass}
 use Rattle.notes.specs.Notes.{natural, mod12}
 use Rattle.harmonies.specs.Xml.{Elements, none, element}
 use Rattle.harmonies.specs.Scanning.{elements_of}
@@ -48,8 +47,8 @@ unfoldable pub class_in : String → String → Elements → ℕ
 class_in step alter es = mod12 (pos (natural (place_of (bytes "CDEFGAB") (text_in step es))) +ℤ integer_of (text_in alter es))
 
 -- the bass, where there is one
-unfoldable pub bass_in : Elements → Bass
-bass_in es = cond (is_there "bass" es) (Bass.Class (class_in "bass-step" "bass-alter" (inside "bass" es))) Bass.None
+unfoldable pub bass_in : Elements → Option ℕ
+bass_in es = cond (is_there "bass" es) (Some (class_in "bass-step" "bass-alter" (inside "bass" es))) None
 
 -- a degree, from what is in its element
 abbrev pub degree_in : Elements → Degree
@@ -64,7 +63,7 @@ degrees_in (element name text within behind) = cond (same (bytes "degree") name)
 -- what an element tells: a root class, a bass class or none, and a set of classes above the root
 pub record Harmony : Type 0 where
   pub root : ℕ
-  pub bass : Bass
+  pub bass : Option ℕ
   pub set : ℕ
 
 -- from what is in the element

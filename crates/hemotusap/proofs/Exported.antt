@@ -1,11 +1,10 @@
 -- From keys to elements: what `hemotusap_candidate` tells of a candidate, `hemotusap_harmony` writes.
 --     exported     no candidate is refused, but for room
 --     read-back    and from its element a reader has its root, its bass and its set
-use Rattle.answer.proofs.Kit.{◌≡◌, ◌&&◌, true, List, ℕ, arith, leb, le-leb}
+use Rattle.answer.proofs.Kit.{◌≡◌, ◌&&◌, true, List, ℕ, arith, leb, le-leb, Some}
 use Rattle.answer.specs.Replies.{text}
 use Rattle.intervals.specs.Bass.{is_bass}
 use Rattle.candidates.specs.declared.parts.Candidate.{Candidate}
-use Rattle.candidates.specs.declared.parts.MaybeCandidate.TheVariants.{Is}
 use Rattle.candidates.specs.Candidates.{flats, candidate_at}
 use Rattle.candidates.proofs.Laws.{candidate_is}
 use Rattle.harmonies.specs.Harmony.{harmony_of}
@@ -14,7 +13,7 @@ use Rattle.harmonies.proofs.Lossless.{lossless}
 use Rattle.musicxml.specs.Replies.{harmony_reply}
 use Rattle.musicxml.proofs.Replied.{element}
 
-module _ (codes : List ℕ) (number : ℕ) (c : Candidate) (e : candidate_at codes number ≡ Is c) where
+module _ (codes : List ℕ) (number : ℕ) (c : Candidate) (e : candidate_at codes number ≡ Some c) where
   classes : leb c.root 11 && is_bass c.bass ≡ true
   classes = let is = candidate_is codes number c e in rw (le-leb c.root 11 (let h = is.root_less in omega arith), is.bass_is)
 

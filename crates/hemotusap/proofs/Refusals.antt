@@ -8,12 +8,10 @@
 --     voicing_places       a voicing's refusal tells no place, or one below 16
 --     voicing_read         so number and place are read from what a call for a voicing gives back, in every room
 --     strict_read          and, strictly, from what the strict entry gives back, in every room, as long as 64 bits hold the formula at each place of the list
-use Rattle.answer.proofs.Kit.{◌≡◌, refl, Bool, true, false, cond, List, ⊎_elim, ℕ, ◌+◌, ◌-◌, ◌*◌, ◌/◌, ◌%◌, ◌^◌, ◌≤◌, ◌<◌, arith, ltb, length, lt-ltb, le-ltb, ℤ, pos, neg_ℤ}
+use Rattle.answer.proofs.Kit.{◌≡◌, refl, Bool, true, false, cond, List, ⊎_elim, ℕ, ◌+◌, ◌-◌, ◌*◌, ◌/◌, ◌%◌, ◌^◌, ◌≤◌, ◌<◌, arith, ltb, length, lt-ltb, le-ltb, ℤ, pos, neg_ℤ, Option, Some, None, Result, Ok, Err}
 use Rattle.answer.specs.Refusals.{told_of}
 use Rattle.answer.proofs.First.{first_less}
 use Rattle.answer.specs.Replies.{Reply, refuse, text, fits, output_of}
-use Rattle.answer.specs.declared.output.Output.{Output}
-use Rattle.answer.specs.declared.refusal.Place.{Place}
 use Rattle.answer.specs.declared.refusal.Refusal.{Refusal}
 use Rattle.answer.specs.declared.refusal.Refusal.TheVariants.{NotASet, BadClass, TooManyPairs, BadPairClass, BadPairInterval, BadNote, BadMove, NotAKey, BadRange, NoRoom}
 use Rattle.notes.specs.declared.note.Note.{Note}
@@ -31,35 +29,35 @@ use Rattle.host.proofs.Wide.{as_written}
 
 pub record Reading : Type 1 where
   pub number : ℕ → ℕ
-  pub Tells : Place → ℕ → Type 0
+  pub Tells : Option ℕ → ℕ → Type 0
 
-abbrev pub quotient_place : Place → ℕ → Type 0
-quotient_place Place.None size = size < 256
-quotient_place (Place.At place) size = (256 ≤ size) × (size % 256 ≡ place)
+abbrev pub quotient_place : Option ℕ → ℕ → Type 0
+quotient_place None size = size < 256
+quotient_place (Some place) size = (256 ≤ size) × (size % 256 ≡ place)
 
 abbrev pub by_quotient : Reading
 by_quotient = record { number = λ size. cond (ltb size 256) size (size / 256); Tells = quotient_place }
 
-abbrev pub strict_place : Place → ℕ → Type 0
-strict_place Place.None size = size < 256 * 11
-strict_place (Place.At place) size = (256 * 11 ≤ size) × (size - 256 * 11 ≡ place)
+abbrev pub strict_place : Option ℕ → ℕ → Type 0
+strict_place None size = size < 256 * 11
+strict_place (Some place) size = (256 * 11 ≤ size) × (size - 256 * 11 ≡ place)
 
 abbrev pub strictly : Reading
 strictly = record { number = λ size. cond (ltb size (256 * 11)) size 11; Tells = strict_place }
 
-abbrev pub IsBelow : ℕ → Place → Type 0
-IsBelow n Place.None = Unit {0}
-IsBelow n (Place.At place) = place < n
+abbrev pub IsBelow : ℕ → Option ℕ → Type 0
+IsBelow n None = Unit {0}
+IsBelow n (Some place) = place < n
 
-pub record IsRead (by : Reading) (number : ℕ) (place : Place) (given : ℤ) : Type 0 where
+pub record IsRead (by : Reading) (number : ℕ) (place : Option ℕ) (given : ℤ) : Type 0 where
   pub size : ℕ
   pub minus_size : given ≡ neg_ℤ (pos size)
   pub its_number : by.number size ≡ number
   pub its_place : by.Tells place size
 
-size_read : (number : ℕ) (place : Place) → 0 < number → number < 256 → IsBelow 256 place → IsRead by_quotient number place (minus (size_of number place))
-size_read number Place.None some small h = record { size = number; minus_size = as_written number (omega arith); its_number = rw (lt-ltb number 256 small) refl; its_place = small }
-size_read number (Place.At place) some small h =
+size_read : (number : ℕ) (place : Option ℕ) → 0 < number → number < 256 → IsBelow 256 place → IsRead by_quotient number place (minus (size_of number place))
+size_read number None some small h = record { size = number; minus_size = as_written number (omega arith); its_number = rw (lt-ltb number 256 small) refl; its_place = small }
+size_read number (Some place) some small h =
     let large : 256 ≤ 256 * number + place = omega arith in
     let quotient : (256 * number + place) / 256 ≡ number = omega arith in
     record {
@@ -100,16 +98,16 @@ voicing_places chord classes intervals =
     (λ few. tt)
 
 -- an output's refusal is read from the number that a host gets
-abbrev pub RefusalRead : Reading → Output → Type 0
-RefusalRead by (Output.Written n) = Unit {0}
-RefusalRead by (Output.Refused why) = IsRead by (told_of why).number (told_of why).place (refusal_number why)
+abbrev pub RefusalRead : Reading → Result ℕ Refusal → Type 0
+RefusalRead by (Ok n) = Unit {0}
+RefusalRead by (Err why) = IsRead by (told_of why).number (told_of why).place (refusal_number why)
 
 -- of a text only the want of room is refused
-text_read : (by : Reading) (t room : List ℕ) → IsRead by 7 Place.None (refusal_number NoRoom) → RefusalRead by (output_of (text t) room)
+text_read : (by : Reading) (t room : List ℕ) → IsRead by 7 None (refusal_number NoRoom) → RefusalRead by (output_of (text t) room)
 unfolding output_of
 text_read by t room no_room = by_room (fits t room)
   where
-    by_room : (b : Bool) → RefusalRead by (cond b (Output.Written (length t)) (Output.Refused NoRoom))
+    by_room : (b : Bool) → RefusalRead by (cond b (Ok (length t)) (Err NoRoom))
     by_room true = tt
     by_room false = no_room
 
@@ -118,15 +116,15 @@ output_read : (reply : Reply) (room : List ℕ) → TellsBelow 16 reply → Refu
 unfolding output_of
 output_read (refuse why) room h = refusal_read why (by_place (told_of why).place h)
   where
-    by_place : (place : Place) → IsBelow 16 place → IsBelow 256 place
-    by_place Place.None h = tt
-    by_place (Place.At place) h = omega arith
+    by_place : (place : Option ℕ) → IsBelow 16 place → IsBelow 256 place
+    by_place None h = tt
+    by_place (Some place) h = omega arith
 output_read (text t) room h = text_read by_quotient t room (refusal_read NoRoom tt)
 
 pub voicing_read : (chord : Chord) (classes intervals room : List ℕ) → RefusalRead by_quotient (output_of (voicing_reply chord classes intervals) room)
 voicing_read chord classes intervals room = output_read _ room (voicing_places chord classes intervals)
 
-key_read : (place : ℕ) → 256 * 11 + place ≤ 2 ^ 63 → IsRead strictly 11 (Place.At place) (refusal_number (NotAKey place))
+key_read : (place : ℕ) → 256 * 11 + place ≤ 2 ^ 63 → IsRead strictly 11 (Some place) (refusal_number (NotAKey place))
 key_read place h =
     let large : 256 * 11 ≤ 256 * 11 + place = omega arith in
     record {

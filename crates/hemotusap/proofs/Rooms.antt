@@ -3,11 +3,10 @@
 --     only_no_room   no refusal but 7 has its number, with whatever place
 --     enough         so it is where a reply asks for no more bytes
 --     CALL-enough    and with each call that has a room
-use Rattle.answer.proofs.Kit.{◌≡◌, sym, ap, ◌∙◌, List, ℕ, ◌<◌, ◌≤◌, arith, eq-eqb, length, ℤ}
+use Rattle.answer.proofs.Kit.{◌≡◌, sym, ap, ◌∙◌, List, ℕ, ◌<◌, ◌≤◌, arith, eq-eqb, length, ℤ, Option, Some, None}
 use lib.IntN.{pos-ne-negsuc}
 use Rattle.answer.specs.Refusals.{told_of}
 use Rattle.answer.specs.Replies.{Reply, refuse, text, AtMost, unhindered}
-use Rattle.answer.specs.declared.refusal.Place.{Place}
 use Rattle.answer.specs.declared.refusal.Refusal.{Refusal}
 use Rattle.answer.specs.declared.refusal.Refusal.TheVariants.{NoRoom}
 use Rattle.answer.proofs.Rooms.{roomy}
@@ -32,7 +31,6 @@ use Rattle.notes.proofs.Names.{note_text_room_lem}
 use Rattle.voicings.specs.declared.voicing.Chord.{Chord}
 use Rattle.voicings.specs.Voicing.{voicing_reply}
 use Rattle.voicings.proofs.Laws.{voicing_room_lem}
-use Rattle.intervals.specs.declared.bass.Bass.{Bass}
 use Rattle.musicxml.specs.Replies.{harmony_reply}
 use Rattle.musicxml.proofs.Replied.{harmony_room_lem}
 use Rattle.hemotusap.specs.Host.{output_number, HostAnswered}
@@ -47,9 +45,9 @@ Enough n reply =
 pub only_no_room : (why : Refusal) → refusal_number why ≡ refusal_number NoRoom → (told_of why).number ≡ 7
 only_no_room why e = by_place (told_of why).number (told_of why).place (in_a_byte why).0 (size_told _ 7 (omega arith) e)
   where
-    by_place : (number : ℕ) (place : Place) → 0 < number → size_of number place ≡ 7 → number ≡ 7
-    by_place number Place.None some told = told
-    by_place number (Place.At place) some told = omega arith
+    by_place : (number : ℕ) (place : Option ℕ) → 0 < number → size_of number place ≡ 7 → number ≡ 7
+    by_place number None some told = told
+    by_place number (Some place) some told = omega arith
 
 not_told : (n : ℕ) (reply : Reply) → AtMost n reply → ¬ (output_number (unhindered reply) ≡ refusal_number NoRoom)
 not_told n (refuse why) other e = let no_way : ⊥ = rw (eq-eqb (told_of why).number 7 (only_no_room why e)) at other in no_way
@@ -81,5 +79,5 @@ note_text_enough note = enough _ (note_reply signs note) (note_text_room_lem not
 pub voicing_enough : (chord : Chord) (classes intervals : List ℕ) → Enough voicing_room (voicing_reply chord classes intervals)
 voicing_enough chord classes intervals = enough _ (voicing_reply chord classes intervals) (voicing_room_lem chord classes intervals)
 
-pub harmony_enough : (root : ℕ) (bass : Bass) (set : ℕ) → Enough harmony_room (harmony_reply flats root bass set)
+pub harmony_enough : (root : ℕ) (bass : Option ℕ) (set : ℕ) → Enough harmony_room (harmony_reply flats root bass set)
 harmony_enough root bass set = enough _ (harmony_reply flats root bass set) (harmony_room_lem root bass set)

@@ -1,21 +1,20 @@
 -- What a call that writes tells its host of what the library answered.
 --     output_fits    the count of bytes written is at most the room, so that 64 bits hold it
 --     told           the answer's number, and the room as the library left it
-use Rattle.answer.proofs.Kit.{◌≡◌, refl, sym, ap, subst, ◌∙◌, Bool, true, false, cond, List, ℕ, ◌^◌, ◌<◌, arith, leb→le, length, ℤ}
+use Rattle.answer.specs.declared.refusal.Refusal.{Refusal}
+use Rattle.answer.proofs.Kit.{◌≡◌, refl, sym, ap, subst, ◌∙◌, Bool, true, false, cond, List, ℕ, ◌^◌, ◌<◌, arith, leb→le, length, ℤ, Result, Ok, Err}
 use Rattle.answer.specs.Replies.{Reply, refuse, text, fits, output_of, Answered}
 use Rattle.answer.specs.declared.refusal.Refusal.TheVariants.{NoRoom}
-use Rattle.answer.specs.declared.output.Output.{Output}
-use Rattle.answer.specs.declared.output.Output.TheVariants.{Written, Refused}
 use Rattle.answer.proofs.Tests.{said}
 use Rattle.hemotusap.specs.Host.{output_number, HostAnswered}
 use Rattle.hemotusap.specs.private.Wide.{Fits}
 
-module _ (reply : Reply) (room : List ℕ) {left : List ℕ} {output : Output} (made : Answered reply room output left) where
+module _ (reply : Reply) (room : List ℕ) {left : List ℕ} {output : Result ℕ Refusal} (made : Answered reply room output left) where
   pub output_fits : length room < 2 ^ 63 → Fits output
   unfolding output_of
   output_fits h = subst Fits (sym made.0) (by_case reply)
     where
-      by_room : (t : List ℕ) (b : Bool) → fits t room ≡ b → Fits (cond b (Written (length t)) (Refused NoRoom))
+      by_room : (t : List ℕ) (b : Bool) → fits t room ≡ b → Fits (cond b (Ok (length t)) (Err NoRoom))
       by_room t true q = let within = leb→le (length t) (length room) (said _ q) in omega arith
       by_room t false q = tt
 

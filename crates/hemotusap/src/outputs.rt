@@ -3,16 +3,16 @@ ghost use Rattle.std.specs.Prelude.{◌≡◌};
 ghost use Rattle.hemotusap.specs.Host.{output_number};
 ghost use Rattle.hemotusap.specs.private.Wide.{Fits};
 
-use answer::output::Output;
+use answer::refusal::Refusal;
 use host::numbers::refused;
 
 // The count of bytes written.
-pub(crate) fn written(output: Output) -> i64
+pub(crate) fn written(output: Result<usize, Refusal>) -> i64
     requires { Fits output }
     ensures { result ≡ output_number output }
 {
     match output {
-        Output::Written(count) => count as i64,
-        Output::Refused(why) => refused(why),
+        Ok(count) => count as i64,
+        Err(why) => refused(why),
     }
 }

@@ -7,18 +7,18 @@ ghost use Rattle.hemotusap.specs.Host.{lead_from, chord_from, HostAnswered};
 use crate::outputs::written;
 use host::numbers::bass_from;
 use voicings::range::{HIGHEST, LOWEST};
-use voicings::voicing::{Chord, Lead, voicing};
+use voicings::voicing::{Chord, voicing};
 
 // The last lead: what is above it is none.
 const LAST_LEAD: u32 = 255;
 
-fn lead_from(lead: u32) -> Lead
+fn lead_from(lead: u32) -> Option<u8>
     ensures { result ≡ lead_from lead }
 {
     if lead > LAST_LEAD {
-        return Lead::None;
+        return None;
     }
-    Lead::Key(lead as u8)
+    Some(lead as u8)
 }
 
 // The voicing of a chord whose keys above the bass are from a lowest to a highest.

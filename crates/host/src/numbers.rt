@@ -2,12 +2,11 @@
 ghost use Rattle.std.specs.Prelude.{◌≡◌, ◌+◌, ◌*◌, pos};
 ghost use Rattle.host.specs.Numbers.{minus, refusal_number, quality_number, note_number, note_answer_number, bass_from, bass_number, parts_number, candidate_number, names_number};
 
-use answer::refusal::{Place, Refusal};
-use candidates::parts::{Candidate, MaybeCandidate};
-use intervals::bass::Bass;
+use answer::refusal::Refusal;
+use candidates::parts::Candidate;
 use names::table::Names;
-use notes::note::{Accidental, Note, NoteAnswer};
-use qualities::quality::QualityAnswer;
+use notes::note::Note;
+use qualities::quality::ChordQuality;
 
 // What the host gives for no bass.
 const NO_BASS: u32 = 255;
@@ -34,17 +33,17 @@ pub fn refused(why: Refusal) -> i64
 {
     let number = why.number();
     match why.place() {
-        Place::None => 0 - (number as i64),
-        Place::At(place) => minus_placed(number, place),
+        None => 0 - (number as i64),
+        Some(place) => minus_placed(number, place),
     }
 }
 
-pub fn quality_number(answer: QualityAnswer) -> i64
+pub fn quality_number(answer: Result<ChordQuality, Refusal>) -> i64
     ensures { result ≡ quality_number answer }
 {
     match answer {
-        QualityAnswer::Is(quality) => quality.number() as i64,
-        QualityAnswer::Refused(why) => refused(why),
+        Ok(quality) => quality.number() as i64,
+        Err(why) => refused(why),
     }
 }
 
@@ -55,35 +54,35 @@ fn note_number(note: Note) -> i64
     let accidental = note.accidental;
     let natural = (16 * (letter as u64) + 6) as i64;
     match accidental {
-        Accidental::None => natural,
-        Accidental::Count(count) => natural + count as i64,
+        None => natural,
+        Some(count) => natural + count as i64,
     }
 }
 
-pub fn moved(answer: NoteAnswer) -> i64
+pub fn moved(answer: Result<Note, Refusal>) -> i64
     ensures { result ≡ note_answer_number answer }
 {
     match answer {
-        NoteAnswer::Is(note) => note_number(note),
-        NoteAnswer::Refused(why) => refused(why),
+        Ok(note) => note_number(note),
+        Err(why) => refused(why),
     }
 }
 
-pub fn bass_from(bass: u32) -> Bass
+pub fn bass_from(bass: u32) -> Option<u32>
     ensures { result ≡ bass_from bass }
 {
     if bass == NO_BASS {
-        return Bass::None;
+        return None;
     }
-    Bass::Class(bass)
+    Some(bass)
 }
 
-fn bass_number(bass: Bass) -> u32
+fn bass_number(bass: Option<u32>) -> u32
     ensures { result ≡ bass_number bass }
 {
     match bass {
-        Bass::None => BASS_OF_NONE,
-        Bass::Class(class) => class,
+        None => BASS_OF_NONE,
+        Some(class) => class,
     }
 }
 
@@ -96,12 +95,12 @@ fn parts_number(candidate: Candidate) -> i64
     (65536 * (bass_number(bass) as u64) + 4096 * root + set) as i64
 }
 
-pub fn candidate_number(answer: MaybeCandidate) -> i64
+pub fn candidate_number(answer: Option<Candidate>) -> i64
     ensures { result ≡ candidate_number answer }
 {
     match answer {
-        MaybeCandidate::Is(candidate) => parts_number(candidate),
-        MaybeCandidate::Nothing => 0,
+        Some(candidate) => parts_number(candidate),
+        None => 0,
     }
 }
 

@@ -1,13 +1,11 @@
 -- The texts of a suffix are short.
-use Rattle.answer.proofs.Kit.{◌≡◌, refl, Bool, true, false, cond, List, [], ◌∷◌, ℕ, T}
+use Rattle.answer.proofs.Kit.{◌≡◌, refl, Bool, true, false, cond, List, [], ◌∷◌, ℕ, T, Option, Some, None}
 use Rattle.answer.specs.Words.{bytes, low, packed}
 use Rattle.answer.proofs.Digits.{are_bytes, is_short}
 use Rattle.answer.proofs.Tests.{all}
 use Rattle.intervals.specs.Intervals.{intervals, nth, numbered, notation_of}
 use Rattle.intervals.proofs.Rows.{at_interval}
 use Rattle.intervals.specs.declared.interval.Interval.{Interval}
-use Rattle.intervals.specs.declared.interval.MaybeInterval.{MaybeInterval}
-use Rattle.intervals.specs.declared.interval.MaybeInterval.TheVariants.{Is, Nothing}
 use Rattle.qualities.specs.declared.quality.ChordQuality.{ChordQuality}
 use Rattle.qualities.specs.declared.quality.ChordQuality.TheVariants.{Maj, Maj6, Maj7, Dominant7, Mi, Mi6, Mi7, MiMaj7, Augmented, Diminished, Diminished7, Power, Bass}
 use Rattle.rules.specs.Stack.{is_one_of}
@@ -68,20 +66,20 @@ unfolding bytes are_bytes is_short low packed
 sus_word b = either_word b record { short = tt; is = refl } no_word
 
 -- a modifier's word by the row of its quality
-pub modifier_word_lem : (q : ChordQuality) (shows : Bool) (without : ℕ) (m : MaybeInterval) → shows ≡ shows_modifier q → without ≡ packed (unmodified q)
+pub modifier_word_lem : (q : ChordQuality) (shows : Bool) (without : ℕ) (m : Option Interval) → shows ≡ shows_modifier q → without ≡ packed (unmodified q)
     → IsWord (modified q m) (modifier_word shows without m)
 unfolding bytes are_bytes is_short
-modifier_word_lem q shows without (Is i) e f = rw e (either_word (shows_modifier q) record { short = notation_short i; is = refl } no_word)
-modifier_word_lem q shows without Nothing e f = record { short = either_short (is_one_of q (Maj7 ∷ Dominant7 ∷ Mi7 ∷ MiMaj7 ∷ [])); is = f }
+modifier_word_lem q shows without (Some i) e f = rw e (either_word (shows_modifier q) record { short = notation_short i; is = refl } no_word)
+modifier_word_lem q shows without None e f = record { short = either_short (is_one_of q (Maj7 ∷ Dominant7 ∷ Mi7 ∷ MiMaj7 ∷ [])); is = f }
   where
     either_short : (b : Bool) → T (is_short (cond b (bytes "7") []))
     either_short true = tt
     either_short false = tt
 
-pub or_nothing_short : (m : MaybeInterval) → T (is_short (or_else "" m))
+pub or_nothing_short : (m : Option Interval) → T (is_short (or_else "" m))
 unfolding bytes are_bytes is_short
-or_nothing_short (Is i) = notation_short i
-or_nothing_short Nothing = tt
+or_nothing_short (Some i) = notation_short i
+or_nothing_short None = tt
 
 pub prefix_short : (w : Prefix) → T (is_short (prefix_text w))
 unfolding bytes are_bytes is_short

@@ -14,10 +14,10 @@ use crate::wording::{
     CLOSE, COMMA, NINE, NOTHING, OPEN, Prefix, SUS, add_where, either, modifier_word, notation,
     prefix_word,
 };
-use answer::output::{Output, give};
+use answer::output::give;
 use answer::refusal::Refusal;
 use answer::word::put;
-use descriptors::descriptor::{Descriptor, DescriptorAnswer, describe};
+use descriptors::descriptor::{Descriptor, describe};
 use descriptors::kinds::kind_of;
 use intervals::interval::{Interval, MAJOR_SEVENTH};
 use intervals::set::is_rooted;
@@ -29,11 +29,11 @@ const LONGEST: usize = 64;
 pub const ROOM: usize = LONGEST + 8;
 
 // The suffix of a rooted set, written to the front of `out`.
-pub fn suffix(set: u32, out: &mut [u8]) -> Output
+pub fn suffix(set: u32, out: &mut [u8]) -> Result<usize, Refusal>
     ensures { Answered (suffix_reply set) out.old result out.new }
 {
     if !is_rooted(set) {
-        return Output::Refused(Refusal::NotASet);
+        return Err(Refusal::NotASet);
     }
     let mut buffer = [0u8; ROOM];
     let end = put_suffix(&mut buffer, 0, set);
@@ -53,8 +53,8 @@ pub fn put_suffix(buffer: &mut [u8], at: usize, set: u32) -> usize
         return at;
     }
     match describe(set) {
-        DescriptorAnswer::Is(descriptor) => put_described(buffer, at, descriptor),
-        DescriptorAnswer::Refused(_) => at,
+        Ok(descriptor) => put_described(buffer, at, descriptor),
+        Err(_) => at,
     }
 }
 

@@ -5,7 +5,7 @@ ghost use Rattle.rules.specs.Heading.{or_else};
 ghost use Rattle.inference.specs.private.Prefixes.{prefix_text, add_where};
 ghost use Rattle.inference.specs.private.Described.{modifier_word};
 
-use intervals::interval::MaybeInterval;
+use intervals::interval::Interval;
 
 pub(crate) const NOTHING: u64 = 0;
 
@@ -56,21 +56,21 @@ pub(crate) fn either(first: bool, word: u64, other: u64) -> u64
 }
 
 // A modifier where a quality shows one, or its word without one.
-pub(crate) fn modifier_word(shows: bool, without: u64, modifier: MaybeInterval) -> u64
+pub(crate) fn modifier_word(shows: bool, without: u64, modifier: Option<Interval>) -> u64
     ensures { result ≡ modifier_word shows without modifier }
 {
     match modifier {
-        MaybeInterval::Is(interval) => either(shows, interval.to_chord_notation(), NOTHING),
-        MaybeInterval::Nothing => without,
+        Some(interval) => either(shows, interval.to_chord_notation(), NOTHING),
+        None => without,
     }
 }
 
 // How a chord writes an interval, where there is one.
-pub(crate) fn notation(interval: MaybeInterval) -> u64
+pub(crate) fn notation(interval: Option<Interval>) -> u64
     ensures { result ≡ packed (or_else "" interval) }
 {
     match interval {
-        MaybeInterval::Is(interval) => interval.to_chord_notation(),
-        MaybeInterval::Nothing => NOTHING,
+        Some(interval) => interval.to_chord_notation(),
+        None => NOTHING,
     }
 }

@@ -3,7 +3,7 @@
 --     past          a number past the last interval names none
 --     at_interval   a test that passes at each interval passes at one
 --     numbered_back, numbered_none, number_small, set_small     an interval's number names it, is below 23, and so a set of intervals below 2 ^ 23
-use Rattle.answer.proofs.Kit.{◌≡◌, refl, sym, ap, subst, ◌∙◌, Bool, true, false, true≢false, List, [], ◌∷◌, map, ℕ, zero, suc, ◌^◌, ◌≤◌, ◌<◌, dec_le, le_of_suc-le-suc, not-suc-le-zero, arith, T, lit<, length}
+use Rattle.answer.proofs.Kit.{◌≡◌, refl, sym, ap, subst, ◌∙◌, Bool, true, false, true≢false, List, [], ◌∷◌, map, ℕ, zero, suc, ◌^◌, ◌≤◌, ◌<◌, dec_le, le_of_suc-le-suc, not-suc-le-zero, arith, T, lit<, length, Option, Some, None}
 use Rattle.answer.specs.Words.{packed}
 use Rattle.answer.proofs.Arms.{Nones, nones}
 use Rattle.answer.proofs.Tests.{all, at}
@@ -13,8 +13,6 @@ use Rattle.intervals.specs.private.Rows.{Tells}
 use Rattle.intervals.specs.declared.interval.Interval.{Interval}
 use Rattle.intervals.specs.declared.interval.Interval.TheVariants.{Unison, MinorSecond, MajorSecond, MinorThird, MajorThird, PerfectFourth, AugmentedFourth, DiminishedFifth, PerfectFifth, AugmentedFifth, MinorSixth, MajorSixth, DiminishedSeventh, MinorSeventh, MajorSeventh, Octave, FlatNinth, Ninth, SharpNinth, Eleventh, SharpEleventh, FlatThirteenth, Thirteenth}
 use Rattle.intervals.specs.declared.interval.About.{About}
-use Rattle.intervals.specs.declared.interval.MaybeInterval.{MaybeInterval}
-use Rattle.intervals.specs.declared.interval.MaybeInterval.TheVariants.{Is, Nothing}
 use Rattle.intervals.proofs.Members.{with_less}
 
 -- an interval's row
@@ -31,17 +29,17 @@ row_tells i k e =
       notation = ap (λ (j : Interval). packed (notation_of j)) (sym e);
     }
 
-nth_past : (l : List Interval) (n : ℕ) → length l ≤ n → nth l n ≡ Nothing
+nth_past : (l : List Interval) (n : ℕ) → length l ≤ n → nth l n ≡ None
 unfolding nth
 nth_past [] n h = refl
 nth_past (i ∷ more) zero h = absurd (not-suc-le-zero h)
 nth_past (i ∷ more) (suc n) h = nth_past more n (le_of_suc-le-suc h)
 
-pub past : (n : ℕ) → Nones n 23 → numbered n ≡ Nothing
+pub past : (n : ℕ) → Nones n 23 → numbered n ≡ None
 unfolding numbered intervals
 past n none = let no_less : ¬ (n < 23) = nones n 23 none in nth_past intervals n (omega arith)
 
-pub numbered_back : (i : Interval) → numbered (number_of i) ≡ Is i
+pub numbered_back : (i : Interval) → numbered (number_of i) ≡ Some i
 unfolding intervals nth numbered
 numbered_back Unison = refl
 numbered_back MinorSecond = refl
@@ -67,13 +65,13 @@ numbered_back SharpEleventh = refl
 numbered_back FlatThirteenth = refl
 numbered_back Thirteenth = refl
 
-pub numbered_none : numbered 23 ≡ Nothing
+pub numbered_none : numbered 23 ≡ None
 unfolding intervals nth numbered
 numbered_none = refl
 
-abbrev is_some : MaybeInterval → Bool
-is_some (Is i) = true
-is_some Nothing = false
+abbrev is_some : Option Interval → Bool
+is_some (Some i) = true
+is_some None = false
 
 pub number_small : (i : Interval) → number_of i < 23
 unfolding numbered intervals
@@ -84,12 +82,12 @@ number_small i = by_order (dec_le 23 (number_of i))
     by_order (no h) = omega arith
 
 -- a test of one interval, of what a number names
-abbrev pub of_numbered : (Interval → Bool) → MaybeInterval → Bool
-of_numbered f (Is i) = f i
-of_numbered f Nothing = true
+abbrev pub of_numbered : (Interval → Bool) → Option Interval → Bool
+of_numbered f (Some i) = f i
+of_numbered f None = true
 
 pub at_interval : (f : Interval → Bool) → T (all (λ n. of_numbered f (numbered n)) 23) → (i : Interval) → T (f i)
-at_interval f t i = subst (λ (m : MaybeInterval). T (of_numbered f m)) (numbered_back i) (at (λ n. of_numbered f (numbered n)) 23 t (number_of i) (number_small i))
+at_interval f t i = subst (λ (m : Option Interval). T (of_numbered f m)) (numbered_back i) (at (λ n. of_numbered f (numbered n)) 23 t (number_of i) (number_small i))
 
 pub set_small : (found : List Interval) → set_of found < 2 ^ 23
 unfolding set_of

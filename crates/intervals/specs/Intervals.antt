@@ -1,5 +1,5 @@
 -- Intervals and degrees: paper 01, "Sets and intervals" ("Intervals are 0..22 in the order of 004"), and the tables of 004.
-use Rattle.std.specs.Prelude.{List, [], ◌∷◌, map, ℕ, zero, suc, ◌%◌}
+use Rattle.std.specs.Prelude.{List, [], ◌∷◌, map, ℕ, zero, suc, ◌%◌, Option, Some, None}
 use Prim.Native.String.{String}
 use Rattle.answer.specs.Words.{bytes}
 use Rattle.intervals.specs.Sets.{bits}
@@ -8,8 +8,6 @@ use Rattle.intervals.specs.declared.interval.Interval.TheVariants.{Unison, Minor
 use Rattle.intervals.specs.declared.interval.IntDegree.{IntDegree}
 use Rattle.intervals.specs.declared.interval.IntDegree.TheVariants.{Root, Second, Third, Fourth, Fifth, Sixth, Seventh}
 use Rattle.intervals.specs.declared.interval.IntDegree.TheVariants as Degree
-use Rattle.intervals.specs.declared.interval.MaybeInterval.{MaybeInterval}
-use Rattle.intervals.specs.declared.interval.MaybeInterval.TheVariants.{Is, Nothing}
 
 -- the intervals in the order of 004
 unfoldable pub intervals : List Interval
@@ -20,13 +18,13 @@ intervals =
     ∷ SharpNinth ∷ Eleventh ∷ SharpEleventh ∷ FlatThirteenth ∷ Thirteenth ∷ []
 
 -- the interval at a place of a list
-unfoldable pub nth : List Interval → ℕ → MaybeInterval
-nth [] n = Nothing
-nth (i ∷ more) zero = Is i
+unfoldable pub nth : List Interval → ℕ → Option Interval
+nth [] n = None
+nth (i ∷ more) zero = Some i
 nth (i ∷ more) (suc n) = nth more n
 
 -- the interval of a number, 0 to 22
-unfoldable pub numbered : ℕ → MaybeInterval
+unfoldable pub numbered : ℕ → Option Interval
 numbered n = nth intervals n
 
 -- what 004 keeps of an interval

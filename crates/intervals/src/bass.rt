@@ -4,18 +4,12 @@ ghost use Rattle.intervals.specs.Bass.{is_bass};
 
 use crate::set::LAST_CLASS;
 
-#[derive(Clone, Copy)]
-pub enum Bass {
-    None,
-    Class(u32),
-}
-
 // Whether a bass is none, or one of the twelve classes.
-pub fn is_bass(bass: Bass) -> bool
+pub fn is_bass(bass: Option<u32>) -> bool
     ensures { result ≡ is_bass bass }
 {
     match bass {
-        Bass::None => true,
-        Bass::Class(class) => class <= LAST_CLASS,
+        None => true,
+        Some(class) => class <= LAST_CLASS,
     }
 }

@@ -94,43 +94,36 @@ type D = IntDegree;
 #[derive(Clone, Copy)]
 struct About(u32, u32, IntDegree, IntDegree, u64);
 
-// The interval of a number, where there is one.
-#[derive(Clone, Copy)]
-pub enum MaybeInterval {
-    Is(Interval),
-    Nothing,
-}
-
 impl Interval {
     // The interval that a number names: 0 to 22, in the order above.
-    pub fn from_number(number: u32) -> MaybeInterval
+    pub fn from_number(number: u32) -> Option<Interval>
         ensures { result ≡ numbered number }
     {
         match number {
-            0 => MaybeInterval::Is(Interval::Unison),
-            1 => MaybeInterval::Is(Interval::MinorSecond),
-            2 => MaybeInterval::Is(Interval::MajorSecond),
-            3 => MaybeInterval::Is(Interval::MinorThird),
-            4 => MaybeInterval::Is(Interval::MajorThird),
-            5 => MaybeInterval::Is(Interval::PerfectFourth),
-            6 => MaybeInterval::Is(Interval::AugmentedFourth),
-            7 => MaybeInterval::Is(Interval::DiminishedFifth),
-            8 => MaybeInterval::Is(Interval::PerfectFifth),
-            9 => MaybeInterval::Is(Interval::AugmentedFifth),
-            10 => MaybeInterval::Is(Interval::MinorSixth),
-            11 => MaybeInterval::Is(Interval::MajorSixth),
-            12 => MaybeInterval::Is(Interval::DiminishedSeventh),
-            13 => MaybeInterval::Is(Interval::MinorSeventh),
-            14 => MaybeInterval::Is(Interval::MajorSeventh),
-            15 => MaybeInterval::Is(Interval::Octave),
-            16 => MaybeInterval::Is(Interval::FlatNinth),
-            17 => MaybeInterval::Is(Interval::Ninth),
-            18 => MaybeInterval::Is(Interval::SharpNinth),
-            19 => MaybeInterval::Is(Interval::Eleventh),
-            20 => MaybeInterval::Is(Interval::SharpEleventh),
-            21 => MaybeInterval::Is(Interval::FlatThirteenth),
-            22 => MaybeInterval::Is(Interval::Thirteenth),
-            _ => MaybeInterval::Nothing,
+            0 => Some(Interval::Unison),
+            1 => Some(Interval::MinorSecond),
+            2 => Some(Interval::MajorSecond),
+            3 => Some(Interval::MinorThird),
+            4 => Some(Interval::MajorThird),
+            5 => Some(Interval::PerfectFourth),
+            6 => Some(Interval::AugmentedFourth),
+            7 => Some(Interval::DiminishedFifth),
+            8 => Some(Interval::PerfectFifth),
+            9 => Some(Interval::AugmentedFifth),
+            10 => Some(Interval::MinorSixth),
+            11 => Some(Interval::MajorSixth),
+            12 => Some(Interval::DiminishedSeventh),
+            13 => Some(Interval::MinorSeventh),
+            14 => Some(Interval::MajorSeventh),
+            15 => Some(Interval::Octave),
+            16 => Some(Interval::FlatNinth),
+            17 => Some(Interval::Ninth),
+            18 => Some(Interval::SharpNinth),
+            19 => Some(Interval::Eleventh),
+            20 => Some(Interval::SharpEleventh),
+            21 => Some(Interval::FlatThirteenth),
+            22 => Some(Interval::Thirteenth),
+            _ => None,
         }
     }
 

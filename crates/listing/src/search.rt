@@ -7,7 +7,8 @@ ghost use Rattle.intervals.specs.Sets.{is_rooted};
 ghost use Rattle.rules.specs.Suffix.{suffix_of};
 ghost use Rattle.listing.specs.Listing.{listing_of};
 
-use answer::output::{Output, give};
+use answer::output::give;
+use answer::refusal::Refusal;
 use inference::normalize::{ROOM as SUFFIX_ROOM, put_suffix};
 
 // The rooted sets.
@@ -20,11 +21,11 @@ const LONGEST: usize = 27;
 const ROOM: usize = 32;
 
 // Every rooted set whose suffix is a text, two bytes each, big-endian, rising.
-pub fn listing(name: &[u8], out: &mut [u8]) -> Output
+pub fn listing(name: &[u8], out: &mut [u8]) -> Result<usize, Refusal>
     ensures { Answered (text (listing_of name.now)) out.old result out.new }
 {
     if name.len() > LONGEST {
-        return Output::Written(0);
+        return Ok(0);
     }
     let mut found = [0u8; ROOM];
     let used = search(name, &mut found);

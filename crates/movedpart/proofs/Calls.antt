@@ -5,13 +5,11 @@
 --     Entry                    what a call replies to some codes, so that a text that it replies is their listing
 --     any_codes, keys_alone    the entry that takes any codes, and the strict one
 --     listing_written          so what a call writes by the contract of an entry is the listing of its codes
-use Rattle.answer.proofs.Kit.{◌≡◌, sym, ap, ap₂, ◌∙◌, Bool, true, false, true≢false, cond, List, ◌++◌, ⊎_elim, ℕ, zero, suc, ◌<◌, ◌^◌, min, arith, length, take, drop, take-append_seam, ℤ, pos, neg_ℤ}
+use Rattle.answer.specs.declared.refusal.Refusal.{Refusal}
+use Rattle.answer.proofs.Kit.{◌≡◌, sym, ap, ap₂, ◌∙◌, Bool, true, false, true≢false, cond, List, ◌++◌, ⊎_elim, ℕ, zero, suc, ◌<◌, ◌^◌, min, arith, length, take, drop, take-append_seam, ℤ, pos, neg_ℤ, Option, Some, None, Result, Ok, Err}
 use lib.IntN.{pos-ne-negsuc}
 use Rattle.answer.specs.Refusals.{told_of}
 use Rattle.answer.specs.Replies.{Reply, refuse, text, fits, output_of, room_after}
-use Rattle.answer.specs.declared.output.Output.{Output}
-use Rattle.answer.specs.declared.output.Output.TheVariants.{Written, Refused}
-use Rattle.answer.specs.declared.refusal.Place.{Place}
 use Rattle.answer.specs.declared.refusal.Refusal.TheVariants.{NoRoom}
 use Rattle.notes.specs.declared.note.Note.{Note}
 use Rattle.names.specs.Names.{table_of}
@@ -24,12 +22,12 @@ use Rattle.hemotusap.specs.Host.{output_number}
 use Rattle.hemotusap.proofs.Refusals.{in_a_byte}
 use Rattle.movedpart.specs.Calls.{Wrote}
 
-pub had_room : (reply : Reply) (room bytes : List ℕ) → output_of reply room ≡ Written (length bytes) → take (length bytes) (room_after reply room) ≡ bytes → reply ≡ text bytes
+pub had_room : (reply : Reply) (room bytes : List ℕ) → output_of reply room ≡ Ok (length bytes) → take (length bytes) (room_after reply room) ≡ bytes → reply ≡ text bytes
 unfolding output_of room_after
 had_room (refuse why) room bytes e written = absurd (true≢false cc)
 had_room (text t) room bytes e written = by_room (fits t room) e written
   where
-    by_room : (b : Bool) → cond b (Written (length t)) (Refused NoRoom) ≡ Written (length bytes) → take (length bytes) (cond b (t ++ drop (length t) room) room) ≡ bytes
+    by_room : (b : Bool) → cond b (Ok (length t)) (Err NoRoom) ≡ Ok (length bytes) → take (length bytes) (cond b (t ++ drop (length t) room) room) ≡ bytes
         → text t ≡ text bytes
     by_room true e written =
         let same : length t ≡ length bytes = cc in
@@ -37,12 +35,12 @@ had_room (text t) room bytes e written = by_room (fits t room) e written
     by_room false e written = absurd (true≢false cc)
 
 pub record Telling (R : Type 0) : Type 0 where
-  pub told : Output → R
+  pub told : Result ℕ Refusal → R
   pub count : ℕ → R
-  pub counted : (output : Output) (n : ℕ) → told output ≡ count n → output ≡ Written n
+  pub counted : (output : Result ℕ Refusal) (n : ℕ) → told output ≡ count n → output ≡ Ok n
 
-abbrev pub library : Telling Output
-library = record { told = λ output. output; count = Written; counted = λ output n e. e }
+abbrev pub library : Telling (Result ℕ Refusal)
+library = record { told = λ output. output; count = Ok; counted = λ output n e. e }
 
 below_zero : (size n : ℕ) → 0 < size → minus size ≡ pos n → ⊥
 below_zero size n some e = by_size (min size (2 ^ 63)) (omega arith) e
@@ -51,13 +49,13 @@ below_zero size n some e = by_size (min size (2 ^ 63)) (omega arith) e
     by_size zero h e = omega arith
     by_size (suc k) h e = pos-ne-negsuc n k (sym e)
 
-pub host_counted : (output : Output) (n : ℕ) → output_number output ≡ pos n → output ≡ Written n
-host_counted (Written m) n e = cc
-host_counted (Refused why) n e = absurd (by_place (told_of why).number (told_of why).place (in_a_byte why).0 e)
+pub host_counted : (output : Result ℕ Refusal) (n : ℕ) → output_number output ≡ pos n → output ≡ Ok n
+host_counted (Ok m) n e = cc
+host_counted (Err why) n e = absurd (by_place (told_of why).number (told_of why).place (in_a_byte why).0 e)
   where
-    by_place : (number : ℕ) (place : Place) → 0 < number → minus (size_of number place) ≡ pos n → ⊥
-    by_place number Place.None some e = below_zero number n some e
-    by_place number (Place.At place) some e = below_zero (size_of number (Place.At place)) n (omega arith) e
+    by_place : (number : ℕ) (place : Option ℕ) → 0 < number → minus (size_of number place) ≡ pos n → ⊥
+    by_place number None some e = below_zero number n some e
+    by_place number (Some place) some e = below_zero (size_of number (Some place)) n (omega arith) e
 
 abbrev pub host : Telling ℤ
 host = record { told = output_number; count = pos; counted = host_counted }

@@ -8,10 +8,9 @@
 --         candidate_moves, host_candidate_moves, candidate_count_stays, host_candidate_count_stays     and 1 of those that tell the parts
 -- All of it holds for any table of names, so for flats and sharps by one proof (5); only of lines as they are read it asks that names be brief, so that none has an end of line
 -- in it. That no code passes 255 is asked nowhere: a call can't be given a list with such a code.
-use Rattle.answer.proofs.Kit.{◌≡◌, refl, sym, ap, ap₂, ◌∙◌, T, List, map, flat_map, ℕ, ◌*◌, length, length-map, pos}
+use Rattle.answer.proofs.Kit.{◌≡◌, refl, sym, ap, ap₂, ◌∙◌, T, List, map, flat_map, ℕ, ◌*◌, length, length-map, pos, Option, Ok}
 use Rattle.answer.specs.Lines.{lines_of}
 use Rattle.answer.specs.Replies.{text}
-use Rattle.answer.specs.declared.output.Output.TheVariants.{Written}
 use Rattle.intervals.specs.Sets.{class_count}
 use Rattle.notes.specs.declared.note.Note.{Note}
 use Rattle.names.specs.Names.{table_of}
@@ -19,7 +18,6 @@ use Rattle.names.specs.declared.table.Names.{Names}
 use Rattle.names.specs.declared.table.Names.TheVariants.{Flats, Sharps}
 use Rattle.names.proofs.Named.{are_brief}
 use Rattle.candidates.specs.declared.parts.Candidate.{Candidate}
-use Rattle.candidates.specs.declared.parts.MaybeCandidate.{MaybeCandidate}
 use Rattle.candidates.specs.Keys.{class_set}
 use Rattle.candidates.specs.Candidates.{chords_of, numbered_in, candidate_at, symbol, line, lines, candidates_of}
 use Rattle.candidates.proofs.Chords.{chords_counted}
@@ -105,16 +103,16 @@ keeps Call listed = record {
 }
 
 -- the library's four calls, and the boundary's: `a` are a call's arguments in their order, `s` what it left of them
-pub candidates_in_keeps : KeepsSymbols (Wrote Written candidates-in.Post (λ κs a. (a.0, a.1.0.now)) (λ κs s. s.1.1.0.now))
+pub candidates_in_keeps : KeepsSymbols (Wrote Ok candidates-in.Post (λ κs a. (a.0, a.1.0.now)) (λ κs s. s.1.1.0.now))
 candidates_in_keeps = keeps _ (listing_written library any_codes (λ κs a. a.1.1.0.now) (λ κs a r s made. made))
 
-pub candidates_keeps : KeepsSymbols (Wrote Written candidates.Post (λ κs a. (Flats, a.0.now)) (λ κs s. s.1.0.now))
+pub candidates_keeps : KeepsSymbols (Wrote Ok candidates.Post (λ κs a. (Flats, a.0.now)) (λ κs s. s.1.0.now))
 candidates_keeps = keeps _ (listing_written library any_codes (λ κs a. a.1.0.now) (λ κs a r s made. made))
 
-pub candidates_strict_in_keeps : KeepsSymbols (Wrote Written candidates-strict-in.Post (λ κs a. (a.0, a.1.0.now)) (λ κs s. s.1.1.0.now))
+pub candidates_strict_in_keeps : KeepsSymbols (Wrote Ok candidates-strict-in.Post (λ κs a. (a.0, a.1.0.now)) (λ κs s. s.1.1.0.now))
 candidates_strict_in_keeps = keeps _ (listing_written library keys_alone (λ κs a. a.1.1.0.now) (λ κs a r s made. made))
 
-pub candidates_strict_keeps : KeepsSymbols (Wrote Written candidates-strict.Post (λ κs a. (Flats, a.0.now)) (λ κs s. s.1.0.now))
+pub candidates_strict_keeps : KeepsSymbols (Wrote Ok candidates-strict.Post (λ κs a. (Flats, a.0.now)) (λ κs s. s.1.0.now))
 candidates_strict_keeps = keeps _ (listing_written library keys_alone (λ κs a. a.1.0.now) (λ κs a r s made. made))
 
 pub host_candidates_keeps : KeepsSymbols (Wrote pos host-candidates.Post (λ κs a. (Flats, a.0.now)) (λ κs s. s.1.0.now))
@@ -139,7 +137,7 @@ pub candidate_count_stays : TwoAnswers (λ n r r'. r' ≡ r) candidate-count.Pos
 candidate_count_stays κs κs' a a' r r' s s' n made made' moved same = made' ∙ ap (λ (l : List ℕ). class_count (class_set l)) moved ∙ count_stays n a.0.now ∙ sym made
 
 -- a host is told the same as numbers
-pub host_candidate_moves : TwoAnswers (λ n r r'. (c : MaybeCandidate) × (r ≡ candidate_number c) × (r' ≡ candidate_number (answer_raised n c))) host-candidate.Post
+pub host_candidate_moves : TwoAnswers (λ n r r'. (c : Option Candidate) × (r ≡ candidate_number c) × (r' ≡ candidate_number (answer_raised n c))) host-candidate.Post
     (λ κs a. a.0.now) (λ κs a. a.1.0)
 host_candidate_moves κs κs' a a' r r' s s' n made made' moved same =
     (candidate_at a.0.now a.1.0, made, made' ∙ ap candidate_number (ap₂ candidate_at moved same ∙ part_moves n a.0.now a.1.0))

@@ -6,12 +6,10 @@
 --     lines_raised, symbols_raised     and what is written of them, in all and of each
 --     octaves           raised by octaves, a list has the same classes
 --     lower_keys        and where it has keys alone, the old one has
-use Rattle.answer.proofs.Kit.{◌≡◌, refl, sym, ap, ap₂, ◌∙◌, Bool, true, false, cond, ◌||◌, List, [], ◌∷◌, ◌++◌, map, flat_map, ℕ, zero, suc, ◌+◌, ◌*◌, ◌%◌, arith, eqb, eq-eqb, ne_eqb, eqb-true, eqb-false}
+use Rattle.answer.proofs.Kit.{◌≡◌, refl, sym, ap, ap₂, ◌∙◌, Bool, true, false, cond, ◌||◌, List, [], ◌∷◌, ◌++◌, map, flat_map, ℕ, zero, suc, ◌+◌, ◌*◌, ◌%◌, arith, eqb, eq-eqb, ne_eqb, eqb-true, eqb-false, Option, Some, None}
 use mathlib.Core.List.Memᴰ
 use mathlib.Core.List.{map-map}
 use Rattle.intervals.specs.Sets.{has, set_where, is_in}
-use Rattle.intervals.specs.declared.bass.Bass.{Bass}
-use Rattle.intervals.specs.declared.bass.Bass.TheVariants.{None, Class}
 use Rattle.intervals.proofs.Wheres.{below_same}
 use Rattle.notes.specs.declared.note.Note.{Note}
 use Rattle.candidates.specs.declared.parts.Candidate.{Candidate}
@@ -71,11 +69,11 @@ module _ (n : ℕ) where
             set_heard (raised n codes) _ (omega arith) ∙ ap (λ (c : ℕ). is_in c (classes (raised n codes))) same ∙ heard_raised (root + k) codes
             ∙ sym (set_heard codes ((root + k) % 12) (omega arith))
 
-    chord_raised_lem : (bass : Bass) (class : ℕ) → chord (class_set (raised n codes)) (bass_raised n bass) (class_raised n class) ≡ chord_raised n (chord (class_set codes) bass class)
+    chord_raised_lem : (bass : Option ℕ) (class : ℕ) → chord (class_set (raised n codes)) (bass_raised n bass) (class_raised n class) ≡ chord_raised n (chord (class_set codes) bass class)
     unfolding chord chord_raised
     chord_raised_lem bass class = ap (λ (s : ℕ). record { root = class_raised n class; bass = bass_raised n bass; set = s }) (seen_raised class)
 
-    each_raised : (bass : Bass) (l : List ℕ)
+    each_raised : (bass : Option ℕ) (l : List ℕ)
         → map (chord (class_set (raised n codes)) (bass_raised n bass)) (map (class_raised n) l) ≡ map (chord_raised n) (map (chord (class_set codes) bass) l)
     each_raised bass [] = refl
     each_raised bass (class ∷ more) = ap₂ ◌∷◌ (chord_raised_lem bass class) (each_raised bass more)
@@ -83,7 +81,7 @@ module _ (n : ℕ) where
     chords_raised : (l : List ℕ) → chords (class_set (raised n codes)) (map (class_raised n) l) ≡ map (chord_raised n) (chords (class_set codes) l)
     unfolding chords
     chords_raised [] = refl
-    chords_raised (first ∷ rest) = ap₂ ◌∷◌ (chord_raised_lem None first) (each_raised (Class first) rest)
+    chords_raised (first ∷ rest) = ap₂ ◌∷◌ (chord_raised_lem None first) (each_raised (Some first) rest)
 
     pub all_raised : chords_of (raised n codes) ≡ map (chord_raised n) (chords_of codes)
     unfolding chords_of

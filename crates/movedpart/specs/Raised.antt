@@ -1,14 +1,10 @@
 -- What it is to be raised by an amount: paper 02, Q-14.
-use Rattle.std.specs.Prelude.{◌≡◌, List, ◌++◌, map, ℕ, ◌+◌, ◌%◌}
+use Rattle.std.specs.Prelude.{◌≡◌, List, ◌++◌, map, ℕ, ◌+◌, ◌%◌, Option, Some, None}
 use Rattle.answer.specs.Lines.{ended}
-use Rattle.intervals.specs.declared.bass.Bass.{Bass}
-use Rattle.intervals.specs.declared.bass.Bass.TheVariants.{None, Class}
 use Rattle.notes.specs.declared.note.Note.{Note}
 use Rattle.names.specs.Names.{name_of}
 use Rattle.rules.specs.Suffix.{suffix_of}
 use Rattle.candidates.specs.declared.parts.Candidate.{Candidate}
-use Rattle.candidates.specs.declared.parts.MaybeCandidate.{MaybeCandidate}
-use Rattle.candidates.specs.declared.parts.MaybeCandidate.TheVariants.{Is, Nothing}
 use Rattle.candidates.specs.Keys.{firsts}
 use Rattle.candidates.specs.Candidates.{slash}
 
@@ -21,9 +17,9 @@ abbrev pub class_raised : ℕ → ℕ → ℕ
 class_raised n class = (class + n) % 12
 
 -- a bass: none is none still
-abbrev pub bass_raised : ℕ → Bass → Bass
+abbrev pub bass_raised : ℕ → Option ℕ → Option ℕ
 bass_raised n None = None
-bass_raised n (Class class) = Class (class_raised n class)
+bass_raised n (Some class) = Some (class_raised n class)
 
 -- a candidate: its root and its bass are raised, and the set is the same
 unfoldable pub chord_raised : ℕ → Candidate → Candidate
@@ -38,9 +34,9 @@ unfoldable pub line_raised : List Note → ℕ → Candidate → List ℕ
 line_raised table n c = ended (symbol_raised table n c)
 
 -- the candidate of a number: where there is none, there is none still
-abbrev pub answer_raised : ℕ → MaybeCandidate → MaybeCandidate
-answer_raised n (Is c) = Is (chord_raised n c)
-answer_raised n Nothing = Nothing
+abbrev pub answer_raised : ℕ → Option Candidate → Option Candidate
+answer_raised n (Some c) = Some (chord_raised n c)
+answer_raised n None = None
 
 -- "Two lists with the same classes in the same order of first occurrence"
 abbrev pub SameClasses : List ℕ → List ℕ → Type 0

@@ -2,7 +2,7 @@
 --     row_text          the add of a row
 --     degrees_row       degrees behind others
 --     subtracts         the tones of a kind that don't sound: its third and its fifth, where they don't, and no other
-use Rattle.answer.proofs.Kit.{◌≡◌, refl, sym, ap, ap₂, ◌∙◌, Bool, true, false, cond, not, List, [], ◌∷◌, ◌++◌, map, append-nil, append_assoc, ℕ}
+use Rattle.answer.proofs.Kit.{◌≡◌, refl, sym, ap, ap₂, ◌∙◌, Bool, true, false, cond, not, List, [], ◌∷◌, ◌++◌, map, append-nil, append_assoc, ℕ, Option, Some, None}
 use Rattle.answer.specs.Words.{bytes, low, packed, digits, text_of}
 use Rattle.answer.proofs.Tests.{left, right, said, is_true}
 use Rattle.intervals.specs.Sets.{is_set, has, has_all, is_rooted}
@@ -18,16 +18,14 @@ use Rattle.harmonies.proofs.Texts.{written_then, degree_text_lem}
 use Rattle.musicxml.specs.declared.degrees.Row.{Row}
 use Rattle.musicxml.specs.declared.texts.Part.TheVariants.{Add, Subtract}
 use Rattle.musicxml.specs.private.Degrees.{degree_text, numbered_add, IsRow, subtract_where}
-use Rattle.intervals.specs.declared.interval.MaybeInterval.{MaybeInterval}
-use Rattle.intervals.specs.declared.interval.MaybeInterval.TheVariants.{Is, Nothing}
 
 -- what ends an add
-add_end : (m : MaybeInterval) → (numbered_add m).type ++ bytes "</degree-type></degree>" ≡ bytes "add</degree-type></degree>"
+add_end : (m : Option Interval) → (numbered_add m).type ++ bytes "</degree-type></degree>" ≡ bytes "add</degree-type></degree>"
 unfolding bytes
-add_end (Is i) = refl
-add_end Nothing = refl
+add_end (Some i) = refl
+add_end None = refl
 
-pub row_text : (m : MaybeInterval) (row : Row) → IsRow (numbered_add m) row → written (degree (numbered_add m)) ≡ degree_text row.0 row.1 Add
+pub row_text : (m : Option Interval) (row : Row) → IsRow (numbered_add m) row → written (degree (numbered_add m)) ≡ degree_text row.0 row.1 Add
 unfolding degree_text
 row_text m row told = degree_text_lem (numbered_add m) ∙ rw (told.value, told.alter, add_end m)
 

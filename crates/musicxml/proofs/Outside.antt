@@ -1,13 +1,11 @@
 -- The intervals outside a kind, by bits: those of the set of all that are outside it which a set has.
 --     outside_bits     they are read off the bitwise and
 --     outside_small    which is a set of intervals
-use Rattle.answer.proofs.Kit.{◌≡◌, refl, sym, ap, ◌∙◌, Bool, true, false, cond, not, ◌&&◌, ◌||◌, and-false, List, [], ◌∷◌, map, ℕ, ◌^◌, ◌<◌, bit_and, and_lt, T, eqb, eqb-true}
+use Rattle.answer.proofs.Kit.{◌≡◌, refl, sym, ap, ◌∙◌, Bool, true, false, cond, not, ◌&&◌, ◌||◌, and-false, List, [], ◌∷◌, map, ℕ, ◌^◌, ◌<◌, bit_and, and_lt, T, eqb, eqb-true, Option, Some, None}
 use Rattle.answer.proofs.Tests.{is_true, all}
 use Rattle.intervals.specs.Sets.{has, is_in, is_rooted}
 use Rattle.intervals.specs.Intervals.{intervals, nth, numbered, number_of, set_of, class_of}
 use Rattle.intervals.specs.declared.interval.Interval.{Interval}
-use Rattle.intervals.specs.declared.interval.MaybeInterval.{MaybeInterval}
-use Rattle.intervals.specs.declared.interval.MaybeInterval.TheVariants.{Is, Nothing}
 use Rattle.intervals.proofs.Masked.{and_has}
 use Rattle.intervals.proofs.Members.{bits_has}
 use Rattle.intervals.proofs.Rows.{at_interval, numbered_back, set_small}
@@ -16,9 +14,9 @@ use Rattle.rules.proofs.Counted.{set_reads}
 use Rattle.harmonies.specs.Kinds.{Kind, tones, outside}
 
 -- two intervals of one number are the same
-or_else : Interval → MaybeInterval → Interval
-or_else other (Is i) = i
-or_else other Nothing = other
+or_else : Interval → Option Interval → Interval
+or_else other (Some i) = i
+or_else other None = other
 
 one_number : (i j : Interval) → number_of i ≡ number_of j → i ≡ j
 unfolding or_else

@@ -2,10 +2,9 @@
 --     letter_short, letter_text     the word of its letter
 --     name_long                     how long its name is
 --     root_text_lem, bass_text_lem      its element, as a root and as a bass
-use Rattle.answer.proofs.Kit.{◌≡◌, Bool, ◌&&◌, List, ◌++◌, ℕ, ◌+◌, ◌%◌, ◌<◌, ◌≤◌, T, eqb, leb, eqb→eq, leb→le, length, take}
+use Rattle.answer.proofs.Kit.{◌≡◌, Bool, ◌&&◌, List, ◌++◌, ℕ, ◌+◌, ◌%◌, ◌<◌, ◌≤◌, T, eqb, leb, eqb→eq, leb→le, length, take, Some}
 use Rattle.answer.specs.Words.{bytes, same, low, packed, digits, long, text_of}
 use Rattle.answer.proofs.Tests.{left, right, all, at, same→eq}
-use Rattle.intervals.specs.declared.bass.Bass.TheVariants.{Class}
 use Rattle.notes.specs.NoteText.{signs, note_name}
 use Rattle.names.specs.Names.{flats, name_of}
 use Rattle.harmonies.specs.Xml.{written}
@@ -28,7 +27,7 @@ abbrev worded : ℕ → Bool
 worded k = same (text_of (letter_word k)) (take 1 (name_of flats k)) && leb (long (letter_word k)) 7 && eqb (long (packed (name_of flats k))) (length (name_of flats k))
 
 abbrev written_so : ℕ → Bool
-written_so k = same (bytes "<harmony>" ++ written (root_of flats k) ++ bytes "<kind>") (root_text k) && same (written (bass_of flats (Class k))) (bass_text k)
+written_so k = same (bytes "<harmony>" ++ written (root_of flats k) ++ bytes "<kind>") (root_text k) && same (written (bass_of flats (Some k))) (bass_text k)
 
 module _ (k : ℕ) (h : k < 12) where
   both_hold : T (worded k && written_so k)
@@ -59,5 +58,5 @@ module _ (k : ℕ) (h : k < 12) where
   pub root_text_lem : bytes "<harmony>" ++ written (root_of flats k) ++ bytes "<kind>" ≡ root_text k
   root_text_lem = same→eq _ _ (left as_root_lem _ (right (worded k) (written_so k) both_hold))
 
-  pub bass_text_lem : written (bass_of flats (Class k)) ≡ bass_text k
+  pub bass_text_lem : written (bass_of flats (Some k)) ≡ bass_text k
   bass_text_lem = same→eq _ _ (right as_root_lem _ (right (worded k) (written_so k) both_hold))

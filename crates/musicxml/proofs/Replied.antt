@@ -3,19 +3,18 @@
 --     no_class       refusal 2
 --     element        the element
 --     harmony_room_lem  no call's answer has more bytes than the longest element
-use Rattle.answer.proofs.Kit.{◌≡◌, refl, Bool, true, false, cond, ◌&&◌, ℕ, arith, leb, leb→le}
+use Rattle.answer.proofs.Kit.{◌≡◌, refl, Bool, true, false, cond, ◌&&◌, ℕ, arith, leb, leb→le, Option}
 use Rattle.answer.specs.Replies.{AtMost, refuse, text}
 use Rattle.answer.specs.declared.refusal.Refusal.TheVariants.{NotASet, BadClass}
 use Rattle.answer.proofs.Tests.{left, right, is_true, said}
 use Rattle.intervals.specs.Bass.{is_bass}
 use Rattle.intervals.specs.Sets.{is_rooted}
-use Rattle.intervals.specs.declared.bass.Bass.{Bass}
 use Rattle.names.specs.Names.{flats}
 use Rattle.harmonies.specs.Harmony.{harmony_of, longest}
 use Rattle.harmonies.proofs.Long.{harmony_short}
 use Rattle.musicxml.specs.Replies.{harmony_reply}
 
-module _ (root : ℕ) (b : Bass) (s : ℕ) where
+module _ (root : ℕ) (b : Option ℕ) (s : ℕ) where
   pub not_rooted : is_rooted s ≡ false → harmony_reply flats root b s ≡ refuse NotASet
   unfolding harmony_reply
   not_rooted e = rw e
@@ -28,7 +27,7 @@ module _ (root : ℕ) (b : Bass) (s : ℕ) where
   unfolding harmony_reply
   element e f = rw (e, f)
 
-pub harmony_room_lem : (root : ℕ) (b : Bass) (s : ℕ) → AtMost longest (harmony_reply flats root b s)
+pub harmony_room_lem : (root : ℕ) (b : Option ℕ) (s : ℕ) → AtMost longest (harmony_reply flats root b s)
 unfolding harmony_reply
 harmony_room_lem root b s = by_set (is_rooted s) refl
   where

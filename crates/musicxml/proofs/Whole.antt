@@ -1,10 +1,9 @@
 -- The whole element as the code puts it.
 --     whole_text, whole                   texts in a row, which are the element
 --     few, third_class, fifth_class      the numbers that they are made of are such as the puts ask for
-use Rattle.answer.proofs.Kit.{◌≡◌, ap₂, ◌∙◌, true, List, ◌++◌, append_assoc, map, ℕ, ◌<◌, ◌^◌, arith, bit_and}
+use Rattle.answer.proofs.Kit.{◌≡◌, ap₂, ◌∙◌, true, List, ◌++◌, append_assoc, map, ℕ, ◌<◌, ◌^◌, arith, bit_and, Option}
 use Rattle.intervals.specs.Sets.{is_rooted}
 use Rattle.intervals.specs.Intervals.{set_of}
-use Rattle.intervals.specs.declared.bass.Bass.{Bass}
 use Rattle.rules.specs.Classes.{intervals_in, intervals_of}
 use Rattle.rules.specs.Parts.{suffix_quality}
 use Rattle.names.specs.Names.{flats}
@@ -23,7 +22,7 @@ use Rattle.musicxml.proofs.Outside.{outside_bits, outside_small}
 use Rattle.musicxml.proofs.Pitched.{root_text, root_text_lem}
 
 -- of a kind's row, the intervals of a set, and the numbers handed in
-abbrev pub whole_text : kinds.Kind → ℕ → ℕ → Bass → ℕ → List ℕ
+abbrev pub whole_text : kinds.Kind → ℕ → ℕ → Option ℕ → ℕ → List ℕ
 whole_text row found root b s =
     root_text root ++ words_text row.name ++ part_text KindEnd ++ written (bass_of flats b) ++ written (degrees (map add_of (intervals_in (bit_and row.outside found))))
     ++ subtract_where s row.third 0x0100000000000033 ++ subtract_where s row.fifth 0x0100000000000035 ++ part_text HarmonyEnd
@@ -55,5 +54,5 @@ module _ (s : ℕ) (is : is_rooted s ≡ true) (row : kinds.Kind) (found : ℕ) 
       degrees_row (map add_of (outside k (intervals_of s))) (map subtract_of (silent k s))
       ∙ ap₂ ◌++◌ are_adds (subtracts k s is (kind_sounds s is) told.on_third told.on_fifth ∙ rw (told.third, told.fifth))
 
-  pub whole : (root : ℕ) (b : Bass) → root < 12 → harmony_of flats root b s ≡ whole_text row found root b s
+  pub whole : (root : ℕ) (b : Option ℕ) → root < 12 → harmony_of flats root b s ≡ whole_text row found root b s
   whole root b h = harmony_text flats root b s ∙ rw (root_text_lem root h, told.name.says, all_degrees) (simp append_assoc)

@@ -14,15 +14,15 @@ ghost use Rattle.musicxml.specs.private.Pitches.{alter_where, pitch_text};
 use crate::degrees::{put_adds, put_subtract};
 use crate::kinds::kind_row;
 use crate::texts::{Part, put_part, put_text};
-use answer::output::{Output, give};
+use answer::output::give;
 use answer::refusal::Refusal;
 use answer::word::put;
 use descriptors::classes::intervals;
 use descriptors::showing::shown;
-use intervals::bass::{Bass, is_bass};
+use intervals::bass::is_bass;
 use intervals::set::LAST_CLASS;
 use names::table::{Names, class_name};
-use qualities::quality::{ChordQuality, QualityAnswer};
+use qualities::quality::ChordQuality;
 
 // The longest element, and eight bytes more: a word is stored whole.
 const ROOM: usize = 1155;
@@ -35,24 +35,24 @@ const THREE: u64 = 0x0100000000000033; // 3
 const FIVE: u64 = 0x0100000000000035; // 5
 
 // The element, written to the front of `out`.
-pub fn harmony(root: u32, bass: Bass, set: u32, out: &mut [u8]) -> Output
+pub fn harmony(root: u32, bass: Option<u32>, set: u32, out: &mut [u8]) -> Result<usize, Refusal>
     ensures { Answered (harmony_reply flats root bass set) out.old result out.new }
 {
     match shown(set) {
-        QualityAnswer::Is(quality) => {
+        Ok(quality) => {
             if !((root <= LAST_CLASS) & is_bass(bass)) {
-                return Output::Refused(Refusal::BadClass);
+                return Err(Refusal::BadClass);
             }
             let mut buffer = [0u8; ROOM];
             let end = put_harmony(&mut buffer, root, bass, set, quality);
             give(&buffer[..end], out)
         }
-        QualityAnswer::Refused(_) => Output::Refused(Refusal::NotASet),
+        Err(_) => Err(Refusal::NotASet),
     }
 }
 
 // The element at the front of a buffer. What a kind has beside its triad sounds, or it would be another kind.
-fn put_harmony(buffer: &mut [u8], root: u32, bass: Bass, set: u32, quality: ChordQuality) -> usize
+fn put_harmony(buffer: &mut [u8], root: u32, bass: Option<u32>, set: u32, quality: ChordQuality) -> usize
     requires { (root < 12) × (is_bass bass ≡ true) × (is_rooted set ≡ true) × (quality ≡ suffix_quality set) × (1155 ≤ length buffer.old) }
     ensures { Writes buffer.old 0 (harmony_of flats root bass set) result buffer.new }
 {
@@ -77,13 +77,13 @@ fn put_harmony(buffer: &mut [u8], root: u32, bass: Bass, set: u32, quality: Chor
     put_part(buffer, after_fifth, Part::HarmonyEnd)
 }
 
-fn put_bass(buffer: &mut [u8], at: usize, bass: Bass) -> usize
+fn put_bass(buffer: &mut [u8], at: usize, bass: Option<u32>) -> usize
     requires { (is_bass bass ≡ true) × (at + length (written (bass_of flats bass)) + 8 ≤ length buffer.old) }
     ensures { Writes buffer.old at (written (bass_of flats bass)) result buffer.new }
 {
     match bass {
-        Bass::None => at,
-        Bass::Class(class) => put_pitch(
+        None => at,
+        Some(class) => put_pitch(
             buffer,
             at,
             class,

@@ -1,5 +1,5 @@
 -- Laws of tables of notes.
-use Rattle.answer.proofs.Kit.{◌≡◌, refl, sym, ap, ◌∙◌, Bool, true, true≢false, ◌&&◌, List, [], ◌∷◌, map, ℕ, zero, suc, ◌≤◌, arith, T, eqb, leb, leb→le, length, get_or}
+use Rattle.answer.proofs.Kit.{◌≡◌, refl, sym, ap, ◌∙◌, Bool, true, true≢false, ◌&&◌, List, [], ◌∷◌, map, ℕ, zero, suc, ◌≤◌, arith, T, eqb, leb, leb→le, length, get_or, Ok, Err}
 use Rattle.answer.specs.Words.{bytes}
 use Rattle.answer.specs.Lines.{line_feeds}
 use Rattle.answer.specs.declared.refusal.Refusal.{Refusal}
@@ -9,7 +9,6 @@ use Rattle.answer.proofs.Tests.{left, right, is_true}
 use Rattle.notes.specs.Notes.{is_note, semitone}
 use Rattle.notes.specs.NoteText.{letter_name, signs, note_name}
 use Rattle.notes.specs.declared.note.Note.{Note}
-use Rattle.notes.specs.declared.note.NoteAnswer.TheVariants.{Is, Refused}
 use Rattle.notes.proofs.Names as text
 use Rattle.names.specs.declared.table.Names.{Names}
 use Rattle.names.specs.declared.table.Names.TheVariants.{Flats, Sharps}
@@ -106,13 +105,13 @@ module _ (table : List Note) (brief : T (are_brief table)) where
   name_line = each_name (λ t. line_feeds t ≡ 0) refl (λ n note two. text.name_line n note) table brief
 
 -- what a table gives for a class is a note
-pub note_in_lem : (table : List Note) → T (are_brief table) → (c : ℕ) (n : Note) → note_in table c ≡ Is n → is_note n ≡ true
+pub note_in_lem : (table : List Note) → T (are_brief table) → (c : ℕ) (n : Note) → note_in table c ≡ Ok n → is_note n ≡ true
 note_in_lem [] t c n e = absurd (true≢false cc)
 note_in_lem (m ∷ more) t zero n e = let same : m ≡ n = cc in rw same at (first_is m more t)
 note_in_lem (m ∷ more) t (suc c) n e = note_in_lem more (rest_brief m more t) c n e
 
 -- and what it refuses is refusal 2
-pub none_in : (table : List Note) (c : ℕ) (why : Refusal) → note_in table c ≡ Refused why → BadClass ≡ why
+pub none_in : (table : List Note) (c : ℕ) (why : Refusal) → note_in table c ≡ Err why → BadClass ≡ why
 none_in [] c why e = cc
 none_in (m ∷ more) zero why e = absurd (true≢false cc)
 none_in (m ∷ more) (suc c) why e = none_in more c why e

@@ -1,11 +1,10 @@
 -- Names of the pitch classes: paper 01, "Candidates" and "Notes", and paper 02, Q-9. What cites a table holds for any table of notes.
-use Rattle.std.specs.Prelude.{List, [], ◌∷◌, map, ℕ, pos, negsuc, get_or}
+use Rattle.answer.specs.declared.refusal.Refusal.{Refusal}
+use Rattle.std.specs.Prelude.{List, [], ◌∷◌, map, ℕ, pos, negsuc, get_or, Result, Ok, Err}
 use Rattle.answer.specs.declared.refusal.Refusal.TheVariants.{BadClass}
 use Rattle.notes.specs.Notes.{note_of}
 use Rattle.notes.specs.NoteText.{signs, note_name}
 use Rattle.notes.specs.declared.note.Note.{Note}
-use Rattle.notes.specs.declared.note.NoteAnswer.{NoteAnswer}
-use Rattle.notes.specs.declared.note.NoteAnswer.TheVariants.{Is, Refused}
 use Rattle.names.specs.declared.table.Names.{Names}
 use Rattle.names.specs.declared.table.Names.TheVariants.{Flats, Sharps}
 
@@ -41,5 +40,5 @@ abbrev pub name_of : List Note → ℕ → List ℕ
 name_of table class = get_or (map (note_name signs) table) class []
 
 -- the note of a class in a table; refusal 2 past it: "a root or bass class above 11"
-abbrev pub note_in : List Note → ℕ → NoteAnswer
-note_in table class = get_or (map Is table) class (Refused BadClass)
+abbrev pub note_in : List Note → ℕ → Result Note Refusal
+note_in table class = get_or (map Ok table) class (Err BadClass)

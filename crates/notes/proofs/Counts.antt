@@ -10,14 +10,13 @@
 --     plus_six         the height of a count is the count plus six
 --     height_less      and is below 13
 --     lowered_height   from a count to its height and back
-use Rattle.answer.proofs.Kit.{◌≡◌, refl, sym, ap, subst, ◌∙◌, Bool, true, false, not, ◌||◌, ℕ, ◌^◌, ◌<◌, ◌≤◌, suc, arith, T, eqb, leb, ltb, ltb→lt, leb→le, T_not, ℤ, pos, negsuc, neg_ℤ, ◌+ℤ◌, ◌-ℤ◌, +ℤ-neg_ℤ_cancel, mag, lt_z, lt-ltb, le-ltb, ne_eqb}
+use Rattle.answer.proofs.Kit.{◌≡◌, refl, sym, ap, subst, ◌∙◌, Bool, true, false, not, ◌||◌, ℕ, ◌^◌, ◌<◌, ◌≤◌, suc, arith, T, eqb, leb, ltb, ltb→lt, leb→le, T_not, ℤ, pos, negsuc, neg_ℤ, ◌+ℤ◌, ◌-ℤ◌, +ℤ-neg_ℤ_cancel, mag, lt_z, lt-ltb, le-ltb, ne_eqb, Some}
 use mir.Syntax.{w32}
 use mir.Val.{SFits, to_z}
 use Rattle.answer.proofs.Between.{not_below, not_above, inside}
 use Rattle.answer.proofs.Tests.{left, is_true, is_false, said, all, at}
 use Rattle.notes.specs.Notes.{is_count, accidental_of}
 use Rattle.notes.specs.private.Heights.{height_of}
-use Rattle.notes.specs.declared.note.Accidental.TheVariants.{Count}
 
 abbrev pub lowered : ℕ → ℤ
 lowered h = pos h -ℤ pos 6
@@ -36,7 +35,7 @@ unfoldable pub not_zero : ℤ → Bool
 not_zero (pos n) = not (eqb n 0)
 not_zero (negsuc n) = true
 
-pub nonzero_count : (z : ℤ) → T (not_zero z) → Count z ≡ accidental_of z
+pub nonzero_count : (z : ℤ) → T (not_zero z) → Some z ≡ accidental_of z
 unfolding not_zero
 nonzero_count (pos n) t = rw (is_false (eqb n 0) (T_not (eqb n 0) t))
 nonzero_count (negsuc n) t = refl
@@ -45,7 +44,7 @@ nonzero_count (negsuc n) t = refl
 counts : ℕ → Bool
 counts h = eqb h 6 || not_zero (lowered h)
 
-pub lowered_count : (h : ℕ) → h < 13 → (h ≡ 6 → ⊥) → Count (lowered h) ≡ accidental_of (lowered h)
+pub lowered_count : (h : ℕ) → h < 13 → (h ≡ 6 → ⊥) → Some (lowered h) ≡ accidental_of (lowered h)
 unfolding all counts not_zero
 lowered_count h less other =
     nonzero_count (lowered h) (subst (λ (t : Bool). T (t || not_zero (lowered h))) (ne_eqb h 6 other) (at counts 13 tt h less))

@@ -1,28 +1,23 @@
 -- Notes and their moves: paper 01, "Notes", and 007.
-use Rattle.std.specs.Prelude.{Bool, cond, ◌&&◌, [], ◌∷◌, ℕ, ◌+◌, ◌-◌, ◌%◌, eqb, leb, ℤ, pos, negsuc, neg_ℤ, ◌+ℤ◌, ◌-ℤ◌, get_or}
+use Rattle.answer.specs.declared.refusal.Refusal.{Refusal}
+use Rattle.std.specs.Prelude.{Bool, cond, ◌&&◌, [], ◌∷◌, ℕ, ◌+◌, ◌-◌, ◌%◌, eqb, leb, ℤ, pos, negsuc, neg_ℤ, ◌+ℤ◌, ◌-ℤ◌, get_or, Option, Some, None, Result, Ok, Err}
 use Rattle.std.specs.Int.Signed.{le_z, lt_z}
 use Rattle.answer.specs.declared.refusal.Refusal.TheVariants.{BadNote, BadMove}
-use Rattle.notes.specs.declared.note.Accidental.{Accidental}
-use Rattle.notes.specs.declared.note.Accidental.TheVariants.{None, Count}
 use Rattle.notes.specs.declared.note.Note.{Note}
-use Rattle.notes.specs.declared.note.SemitoneAnswer.{SemitoneAnswer}
-use Rattle.notes.specs.declared.note.SemitoneAnswer.TheVariants as Semitone
-use Rattle.notes.specs.declared.note.NoteAnswer.{NoteAnswer}
-use Rattle.notes.specs.declared.note.NoteAnswer.TheVariants.{Is, Refused}
 
 -- a count from -6 to 6
 abbrev pub is_count : ℤ → Bool
 is_count z = le_z (neg_ℤ (pos 6)) z && le_z z (pos 6)
 
 -- an accidental's count: none counts 0
-abbrev pub count_of : Accidental → ℤ
+abbrev pub count_of : Option ℤ → ℤ
 count_of None = pos 0
-count_of (Count z) = z
+count_of (Some z) = z
 
 -- the accidental of a count: "a 0 handed in is none"
-abbrev pub accidental_of : ℤ → Accidental
-accidental_of (pos n) = cond (eqb n 0) None (Count (pos n))
-accidental_of (negsuc n) = Count (negsuc n)
+abbrev pub accidental_of : ℤ → Option ℤ
+accidental_of (pos n) = cond (eqb n 0) None (Some (pos n))
+accidental_of (negsuc n) = Some (negsuc n)
 
 -- the note of a letter and a count
 abbrev pub note_of : ℕ → ℤ → Note
@@ -71,15 +66,15 @@ transposed from note to =
     get_note note ((semitone to + 12 - semitone from) % 12) ((to.letter + 7 - from.letter) % 7 + 1)
 
 -- what the calls answer: refusal 5, then 6
-unfoldable pub semitone_answer : Note → SemitoneAnswer
-semitone_answer n = cond (is_note n) (Semitone.Is (semitone n)) (Semitone.Refused BadNote)
+unfoldable pub semitone_answer : Note → Result ℕ Refusal
+semitone_answer n = cond (is_note n) (Ok (semitone n)) (Err BadNote)
 
 -- refusal 5 for what is no note, then 6 for what is no move, or the note
-unfoldable pub get_note_answer : Note → ℕ → ℕ → NoteAnswer
+unfoldable pub get_note_answer : Note → ℕ → ℕ → Result Note Refusal
 get_note_answer n semitones degree =
-    cond (is_note n) (cond (is_move semitones degree) (Is (get_note n semitones degree)) (Refused BadMove)) (Refused BadNote)
+    cond (is_note n) (cond (is_move semitones degree) (Ok (get_note n semitones degree)) (Err BadMove)) (Err BadNote)
 
 -- refusal 5 where one of the three is no note, or the note
-unfoldable pub transpose_answer : Note → Note → Note → NoteAnswer
+unfoldable pub transpose_answer : Note → Note → Note → Result Note Refusal
 transpose_answer from note to =
-    cond (is_note from && is_note note && is_note to) (Is (transposed from note to)) (Refused BadNote)
+    cond (is_note from && is_note note && is_note to) (Ok (transposed from note to)) (Err BadNote)

@@ -6,34 +6,15 @@ ghost use Rattle.notes.specs.Notes.{count_of, note_of, is_note, natural, semiton
 ghost use Rattle.notes.specs.NoteText.{letter_name, signs, note_name, note_reply};
 ghost use Rattle.notes.specs.private.Heights.{height_of, behind_letter};
 
-use answer::output::{Output, give};
+use answer::output::give;
 use answer::refusal::Refusal;
 use answer::word::put;
-
-// No accidental, or so many sharps; flats are negative.
-#[derive(Clone, Copy)]
-pub enum Accidental {
-    None,
-    Count(i32),
-}
 
 // Letters are 0 to 6: C D E F G A B.
 #[derive(Clone, Copy)]
 pub struct Note {
     pub letter: u32,
-    pub accidental: Accidental,
-}
-
-#[derive(Clone, Copy)]
-pub enum SemitoneAnswer {
-    Is(u32),
-    Refused(Refusal),
-}
-
-#[derive(Clone, Copy)]
-pub enum NoteAnswer {
-    Is(Note),
-    Refused(Refusal),
+    pub accidental: Option<i32>,
 }
 
 // The height of no accidental, and one that no count has.
@@ -54,12 +35,12 @@ fn count_height(count: i32) -> u32
     (count + 6) as u32
 }
 
-fn height(accidental: Accidental) -> u32
+fn height(accidental: Option<i32>) -> u32
     ensures { result ≡ height_of (count_of accidental) }
 {
     match accidental {
-        Accidental::None => NATURAL,
-        Accidental::Count(count) => count_height(count),
+        None => NATURAL,
+        Some(count) => count_height(count),
     }
 }
 
@@ -71,13 +52,13 @@ fn at_height(letter: u32, height: u32) -> Note
     if height == NATURAL {
         return Note {
             letter,
-            accidental: Accidental::None,
+            accidental: None,
         };
     }
     let count = height as i32 - 6;
     Note {
         letter,
-        accidental: Accidental::Count(count),
+        accidental: Some(count),
     }
 }
 
@@ -177,60 +158,60 @@ impl Note {
         if count == 0 {
             return Note {
                 letter,
-                accidental: Accidental::None,
+                accidental: None,
             };
         }
         Note {
             letter,
-            accidental: Accidental::Count(count),
+            accidental: Some(count),
         }
     }
 
-    pub fn to_semitone(self) -> SemitoneAnswer
+    pub fn to_semitone(self) -> Result<u32, Refusal>
         ensures { result ≡ semitone_answer self }
     {
         if !is_note(self) {
-            return SemitoneAnswer::Refused(Refusal::BadNote);
+            return Err(Refusal::BadNote);
         }
-        SemitoneAnswer::Is(pitch(self))
+        Ok(pitch(self))
     }
 
-    pub fn get_note(self, semitones: u32, degree: u32) -> NoteAnswer
+    pub fn get_note(self, semitones: u32, degree: u32) -> Result<Note, Refusal>
         ensures { result ≡ get_note_answer self semitones degree }
     {
         if !is_note(self) {
-            return NoteAnswer::Refused(Refusal::BadNote);
+            return Err(Refusal::BadNote);
         }
         if semitones > 24 {
-            return NoteAnswer::Refused(Refusal::BadMove);
+            return Err(Refusal::BadMove);
         }
         if degree == 0 {
-            return NoteAnswer::Refused(Refusal::BadMove);
+            return Err(Refusal::BadMove);
         }
         if degree > 14 {
-            return NoteAnswer::Refused(Refusal::BadMove);
+            return Err(Refusal::BadMove);
         }
-        NoteAnswer::Is(moved(self, semitones, degree))
+        Ok(moved(self, semitones, degree))
     }
 
     // `note`, moved as this one to `to`.
-    pub fn transpose(self, note: Note, to: Note) -> NoteAnswer
+    pub fn transpose(self, note: Note, to: Note) -> Result<Note, Refusal>
         ensures { result ≡ transpose_answer self note to }
     {
         if !is_note(self) {
-            return NoteAnswer::Refused(Refusal::BadNote);
+            return Err(Refusal::BadNote);
         }
         if !is_note(note) {
-            return NoteAnswer::Refused(Refusal::BadNote);
+            return Err(Refusal::BadNote);
         }
         if !is_note(to) {
-            return NoteAnswer::Refused(Refusal::BadNote);
+            return Err(Refusal::BadNote);
         }
         let target = to.letter;
         let source = self.letter;
         let semitones = (pitch(to) + 12 - pitch(self)) % 12;
         let steps = (target + 7 - source) % 7;
-        NoteAnswer::Is(moved(note, semitones, steps + 1))
+        Ok(moved(note, semitones, steps + 1))
     }
 
     // Its text as a word; of what is no note, nothing.
@@ -245,11 +226,11 @@ impl Note {
         letter_byte(letter) + behind_letter(height(accidental))
     }
 
-    pub fn text(self, out: &mut [u8]) -> Output
+    pub fn text(self, out: &mut [u8]) -> Result<usize, Refusal>
         ensures { Answered (note_reply signs self) out.old result out.new }
     {
         if !is_note(self) {
-            return Output::Refused(Refusal::BadNote);
+            return Err(Refusal::BadNote);
         }
         let mut buffer = [0u8; 8];
         let length = put(&mut buffer, 0, self.to_word());

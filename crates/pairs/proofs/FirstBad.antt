@@ -5,12 +5,10 @@
 --     Says            what each outcome of the check says of the pairs
 --     checked_says    so it is with `pairs_checked`
 --     said_only       and what a check that says so comes to is that outcome: each is given exactly in its case
-use Rattle.answer.proofs.Kit.{◌≡◌, refl, sym, ap, ◌∙◌, Bool, true, false, cond, ◌&&◌, List, Memᴰ, ℕ, ◌≤◌, ◌<◌, leb, leb→le, length, lt-leb, le-leb, leb-false, not-false, not-true}
+use Rattle.answer.proofs.Kit.{◌≡◌, refl, sym, ap, ◌∙◌, Bool, true, false, cond, ◌&&◌, List, Memᴰ, ℕ, ◌≤◌, ◌<◌, leb, leb→le, length, lt-leb, le-leb, leb-false, not-false, not-true, Result, Ok, Err, ⊤}
 use Rattle.answer.proofs.Tests.{left, right, said}
 use Rattle.answer.proofs.First.{IsFirst, first_as, Passes, Fails}
 use Rattle.answer.proofs.FirstRefused.{refused_says, first_refused_lem, none_refused}
-use Rattle.answer.specs.declared.refusal.Checked.{Checked}
-use Rattle.answer.specs.declared.refusal.Checked.TheVariants.{Passed, Refused}
 use Rattle.answer.specs.declared.refusal.Refusal.{Refusal}
 use Rattle.answer.specs.declared.refusal.Refusal.TheVariants.{NotASet, BadClass, TooManyPairs, BadPairClass, BadPairInterval, BadNote, BadMove, NotAKey, BadRange, NoRoom}
 use Rattle.pool.specs.declared.pool.Tone.{Tone}
@@ -59,9 +57,9 @@ by_why tones P many class interval (NotAKey place) h = absurd h
 by_why tones P many class interval BadRange h = absurd h
 by_why tones P many class interval NoRoom h = absurd h
 
-abbrev pub Says : List Tone → Checked → Type 0
-Says tones Passed = (length tones ≤ 16) × ((t : Tone) → Memᴰ t tones → IsGood t)
-Says tones (Refused why) = SaysWhy tones why
+abbrev pub Says : List Tone → Result ⊤ Refusal → Type 0
+Says tones (Ok tt) = (length tones ≤ 16) × ((t : Tone) → Memᴰ t tones → IsGood t)
+Says tones (Err why) = SaysWhy tones why
 
 good : (t : Tone) → is_bad t ≡ false → IsGood t
 good t e =
@@ -88,25 +86,25 @@ pub checked_says : (tones : List Tone) → Says tones (pairs_checked tones)
 unfolding pairs_checked
 checked_says tones = by_count (leb (length tones) 16) refl
   where
-    by_count : (b : Bool) → leb (length tones) 16 ≡ b → Says tones (cond b (first_checked tones) (Refused TooManyPairs))
+    by_count : (b : Bool) → leb (length tones) 16 ≡ b → Says tones (cond b (first_checked tones) (Err TooManyPairs))
     by_count true e = first_says tones (leb→le _ _ (said _ e))
     by_count false e = leb-false _ _ e
 
 -- a bad pair's refusal, where it is the first
 module _ (Bad : Tone → Type 0) (tones : List Tone) (place : ℕ) (bad : (t : Tone) → Bad t → is_bad t ≡ true) (h : FirstBad Bad tones place) where
-  is_refused : pairs_checked tones ≡ Refused (bad_pair place h.pair)
+  is_refused : pairs_checked tones ≡ Err (bad_pair place h.pair)
   unfolding pairs_checked
   is_refused =
       rw (le-leb _ _ h.few) (first_refused_lem is_bad bad_pair tones place h.pair (first_as h.first (bad h.pair h.first.found) not_bad))
 
-said_why : (tones : List Tone) (why : Refusal) → SaysWhy tones why → pairs_checked tones ≡ Refused why
+said_why : (tones : List Tone) (why : Refusal) → SaysWhy tones why → pairs_checked tones ≡ Err why
 unfolding pairs_checked
 said_why tones =
-    by_why tones (λ (why : Refusal). pairs_checked tones ≡ Refused why) (λ h. rw (lt-leb _ _ h))
+    by_why tones (λ (why : Refusal). pairs_checked tones ≡ Err why) (λ h. rw (lt-leb _ _ h))
     (λ place h. is_refused ClassAbove tones place (λ t above. rw (lt-leb _ _ above)) h ∙ rw (lt-leb _ _ h.first.found))
     (λ place h. is_refused IntervalAbove tones place (λ t above. rw (le-leb _ _ above.0, lt-leb _ _ above.1)) h ∙ rw (le-leb _ _ h.first.found.0))
 
-pub said_only : (tones : List Tone) (r : Checked) → Says tones r → pairs_checked tones ≡ r
+pub said_only : (tones : List Tone) (r : Result ⊤ Refusal) → Says tones r → pairs_checked tones ≡ r
 unfolding pairs_checked
-said_only tones Passed h = rw (le-leb _ _ h.0) (none_refused is_bad bad_pair tones (λ t m. not_bad t (h.1 t m)))
-said_only tones (Refused why) h = said_why tones why h
+said_only tones (Ok tt) h = rw (le-leb _ _ h.0) (none_refused is_bad bad_pair tones (λ t m. not_bad t (h.1 t m)))
+said_only tones (Err why) h = said_why tones why h

@@ -1,8 +1,6 @@
 -- Which pairs are refused: paper 01, "Numbers given back", and paper 02, Q-1.
-use Rattle.std.specs.Prelude.{Bool, not, cond, ◌&&◌, List, ℕ, leb, length}
+use Rattle.std.specs.Prelude.{Bool, not, cond, ◌&&◌, List, ℕ, leb, length, Result, Err, ⊤}
 use Rattle.answer.specs.First.{first_refused}
-use Rattle.answer.specs.declared.refusal.Checked.{Checked}
-use Rattle.answer.specs.declared.refusal.Checked.TheVariants.{Refused}
 use Rattle.answer.specs.declared.refusal.Refusal.{Refusal}
 use Rattle.answer.specs.declared.refusal.Refusal.TheVariants.{TooManyPairs, BadPairClass, BadPairInterval}
 use Rattle.pool.specs.declared.pool.Tone.{Tone}
@@ -16,9 +14,9 @@ abbrev pub bad_pair : ℕ → Tone → Refusal
 bad_pair place t = cond (leb t.class 11) (BadPairInterval place) (BadPairClass place)
 
 -- refusals 41 and 42: "The earliest bad pair counts"
-abbrev pub first_checked : List Tone → Checked
+abbrev pub first_checked : List Tone → Result ⊤ Refusal
 first_checked tones = first_refused is_bad bad_pair tones
 
 -- refusal 3, "more than 16 pairs used", comes before them
-unfoldable pub pairs_checked : List Tone → Checked
-pairs_checked tones = cond (leb (length tones) 16) (first_checked tones) (Refused TooManyPairs)
+unfoldable pub pairs_checked : List Tone → Result ⊤ Refusal
+pairs_checked tones = cond (leb (length tones) 16) (first_checked tones) (Err TooManyPairs)

@@ -1,14 +1,13 @@
 -- The pool: paper 01, "Voicing (001)".
-use Rattle.std.specs.Prelude.{Bool, false, ◌||◌, List, [], ◌∷◌, ℕ}
+use Rattle.intervals.specs.declared.interval.Interval.{Interval}
+use Rattle.std.specs.Prelude.{Bool, false, ◌||◌, List, [], ◌∷◌, ℕ, Option, Some, None}
 use Rattle.intervals.specs.Intervals.{numbered, class_of}
-use Rattle.intervals.specs.declared.interval.MaybeInterval.{MaybeInterval}
-use Rattle.intervals.specs.declared.interval.MaybeInterval.TheVariants.{Is, Nothing}
 use Rattle.pool.specs.declared.pool.Tone.{Tone}
 
 -- of an interval, or 0 of none
-abbrev pub base_named : MaybeInterval → ℕ
-base_named (Is i) = class_of i
-base_named Nothing = 0
+abbrev pub base_named : Option Interval → ℕ
+base_named (Some i) = class_of i
+base_named None = 0
 
 -- "A tone's base is its interval's semitones mod 12": of what a number names
 abbrev pub base_of : ℕ → ℕ

@@ -3,7 +3,7 @@ ghost use Rattle.std.specs.Prelude.{◌≡◌, ◌++◌, ◌≤◌, length, take
 ghost use Rattle.pool.specs.Pool.{base_of, tone_of, tones_of};
 ghost use Rattle.pool.specs.private.Places.{blanks, pool_of};
 
-use intervals::interval::{Interval, MaybeInterval};
+use intervals::interval::Interval;
 
 // A tone of a chord: its interval's semitones in one octave, its class, and its interval's number.
 #[derive(Clone, Copy)]
@@ -34,8 +34,8 @@ fn base(interval: u8) -> u8
     ensures { result ≡ base_of interval }
 {
     match Interval::from_number(interval as u32) {
-        MaybeInterval::Is(named) => (named.st() % 12) as u8,
-        MaybeInterval::Nothing => 0,
+        Some(named) => (named.st() % 12) as u8,
+        None => 0,
     }
 }
 

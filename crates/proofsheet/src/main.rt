@@ -3,17 +3,16 @@
 
 ghost use Rattle.std.specs.Prelude.{◌<◌};
 
-use answer::output::Output;
 use answer::refusal::Refusal;
 use inference::normalize::suffix;
 use intervals::bass::Bass;
 use listing::search::listing;
-use notes::note::{Note, NoteAnswer};
-use qualities::quality::{QualityAnswer, quality};
+use notes::note::Note;
+use qualities::quality::quality;
 use spelling::tones::tones;
 use std::io;
 use voicings::range::{HIGHEST, LOWEST};
-use voicings::voicing::{Chord, Lead, voicing};
+use voicings::voicing::{Chord, voicing};
 
 fn print(rt: &impl Print, text: &[u8]) -> io::Result<()> {
     rt.write_all(text)
@@ -29,22 +28,22 @@ fn print_refusal(rt: &impl Print, why: Refusal) -> io::Result<()> {
 }
 
 // A text that a call wrote.
-fn print_text(rt: &impl Print, output: Output, out: &[u8]) -> io::Result<()> {
+fn print_text(rt: &impl Print, output: Result<usize, Refusal>, out: &[u8]) -> io::Result<()> {
     match output {
-        Output::Written(count) => {
+        Ok(count) => {
             if count <= out.len() {
                 print(rt, &out[..count])?;
             }
         }
-        Output::Refused(why) => print_refusal(rt, why)?,
+        Err(why) => print_refusal(rt, why)?,
     }
     print(rt, b"\n")
 }
 
 // Numbers of one byte each, or of two, the higher first, with a space before each.
-fn print_numbers(rt: &impl Print, output: Output, out: &[u8], of_two: bool) -> io::Result<()> {
+fn print_numbers(rt: &impl Print, output: Result<usize, Refusal>, out: &[u8], of_two: bool) -> io::Result<()> {
     match output {
-        Output::Written(count) => {
+        Ok(count) => {
             let mut number: u32 = 0;
             let mut i = 0;
             while i < count {
@@ -60,7 +59,7 @@ fn print_numbers(rt: &impl Print, output: Output, out: &[u8], of_two: bool) -> i
                 }
             }
         }
-        Output::Refused(why) => print_refusal(rt, why)?,
+        Err(why) => print_refusal(rt, why)?,
     }
     print(rt, b"\n")
 }
@@ -80,8 +79,8 @@ fn print_suffix(rt: &impl Print, set: u32) -> io::Result<()> {
 // Qualities by their numbers.
 fn print_quality(rt: &impl Print, set: u32) -> io::Result<()> {
     match quality(set) {
-        QualityAnswer::Is(found) => print_number(rt, found.number())?,
-        QualityAnswer::Refused(why) => print_refusal(rt, why)?,
+        Ok(found) => print_number(rt, found.number())?,
+        Err(why) => print_refusal(rt, why)?,
     }
     print(rt, b"\n")
 }
@@ -95,8 +94,8 @@ fn print_listing(rt: &impl Print, name: &[u8]) -> io::Result<()> {
 // On C.
 fn print_voicing(
     rt: &impl Print,
-    bass: Bass,
-    lead: Lead,
+    bass: Option<u32>,
+    lead: Option<u8>,
     classes: &[u8],
     intervals: &[u8],
 ) -> io::Result<()> {
@@ -126,11 +125,11 @@ fn print_tones(rt: &impl Print, root: u32, set: u32) -> io::Result<()> {
 fn print_moved(rt: &impl Print, from: Note, note: Note, to: Note) -> io::Result<()> {
     let mut out = [0u8; 7];
     match from.transpose(note, to) {
-        NoteAnswer::Is(moved) => {
+        Ok(moved) => {
             let output = moved.text(&mut out);
             print_text(rt, output, &out)
         }
-        NoteAnswer::Refused(why) => print_refusal(rt, why),
+        Err(why) => print_refusal(rt, why),
     }
 }
 
@@ -154,10 +153,10 @@ fn print_symbols(rt: &impl Print) -> io::Result<()> {
 
 // Intervals by their numbers: 1 is 0, b3 3, 3 4, b5 7, 5 8, Ma7 14, b9 16.
 fn print_voicings(rt: &impl Print) -> io::Result<()> {
-    print_voicing(rt, Bass::None, Lead::None, &[0, 4, 7, 11], &[0, 4, 8, 14])?;
-    print_voicing(rt, Bass::None, Lead::Key(72), &[0, 3, 6], &[0, 3, 7])?;
-    print_voicing(rt, Bass::None, Lead::Key(60), &[0, 1], &[0, 16])?;
-    print_voicing(rt, Bass::Class(4), Lead::None, &[0, 4, 7], &[0, 4, 8])
+    print_voicing(rt, None, None, &[0, 4, 7, 11], &[0, 4, 8, 14])?;
+    print_voicing(rt, None, Some(72), &[0, 3, 6], &[0, 3, 7])?;
+    print_voicing(rt, None, Some(60), &[0, 1], &[0, 16])?;
+    print_voicing(rt, Some(4), None, &[0, 4, 7], &[0, 4, 8])
 }
 
 fn main(rt: HostRuntime) -> io::Result<()> {

@@ -1,11 +1,10 @@
 -- The quality of a set: paper 01, "Quality (003), first that holds", rule by rule in its order.
-use Rattle.std.specs.Prelude.{cond, ◌&&◌, [], ◌∷◌, ℕ, eqb}
+use Rattle.answer.specs.declared.refusal.Refusal.{Refusal}
+use Rattle.std.specs.Prelude.{cond, ◌&&◌, [], ◌∷◌, ℕ, eqb, Result, Ok, Err}
 use Rattle.answer.specs.declared.refusal.Refusal.TheVariants.{NotASet}
 use Rattle.intervals.specs.Sets.{is_set, has_all, has_none, class_count}
 use Rattle.qualities.specs.declared.quality.ChordQuality.{ChordQuality}
 use Rattle.qualities.specs.declared.quality.ChordQuality.TheVariants.{Maj, Maj6, Maj7, Dominant7, Mi, Mi6, Mi7, MiMaj7, Augmented, Diminished, Diminished7, Power, Bass}
-use Rattle.qualities.specs.declared.quality.QualityAnswer.{QualityAnswer}
-use Rattle.qualities.specs.declared.quality.QualityAnswer.TheVariants.{Is, Refused}
 
 -- the quality of a set
 unfoldable pub quality_of : ℕ → ChordQuality
@@ -43,5 +42,5 @@ quality_number Power = 11
 quality_number Bass = 12
 
 -- what a call answers: the quality, or refusal 1 for a number that is no set
-unfoldable pub quality_answer : ℕ → QualityAnswer
-quality_answer s = cond (is_set s) (Is (quality_of s)) (Refused NotASet)
+unfoldable pub quality_answer : ℕ → Result ChordQuality Refusal
+quality_answer s = cond (is_set s) (Ok (quality_of s)) (Err NotASet)

@@ -29,12 +29,6 @@ pub enum ChordQuality {
     Bass,
 }
 
-#[derive(Clone, Copy)]
-pub enum QualityAnswer {
-    Is(ChordQuality),
-    Refused(Refusal),
-}
-
 // Sets of classes that make a quality.
 const EMPTY_SET: u32 = 0;
 
@@ -100,13 +94,13 @@ const STACK: u32 = 1 << 7 | 1 << 9 | 1 << 13;
 const STACK_11: u32 = 1 << 7 | 1 << 9 | 1 << 11 | 1 << 13;
 
 // The quality of any set.
-pub fn quality(set: u32) -> QualityAnswer
+pub fn quality(set: u32) -> Result<ChordQuality, Refusal>
     ensures { result ≡ quality_answer set }
 {
     if set > LAST_SET {
-        return QualityAnswer::Refused(Refusal::NotASet);
+        return Err(Refusal::NotASet);
     }
-    QualityAnswer::Is(first_rule(set))
+    Ok(first_rule(set))
 }
 
 // The first rule that holds. One test of a rule: of the classes that it names, those in the set are those that it asks for.

@@ -3,13 +3,12 @@
 --     first_of   the count of zeros below the lowest bit finds it
 --     lowest_of, number_small, bit, bit_within, less      a turn of a loop that takes it: its number, its bit as the code has it (a 1,
 --                shifted), and what is left once it is taken
-use Rattle.answer.proofs.Kit.{◌≡◌, refl, sym, ap, subst, ◌∙◌, Bool, true, cond, ◌&&◌, List, [], ◌∷◌, ⊎_elim, ℕ, zero, suc, ◌*◌, ◌/◌, ◌%◌, ◌-◌, ◌^◌, ◌≤◌, ◌<◌, arith, pow-suc, div-div-eq-div-mul, div-one, eq-or-lt_of_le, not-suc-le-zero, le_of_suc-le-suc, count_trailing_zeros, under, T, eqb, eqb→eq, length, pow_pos, eq-eqb, ne_eqb}
+use Rattle.answer.proofs.Kit.{◌≡◌, refl, sym, ap, subst, ◌∙◌, Bool, true, cond, ◌&&◌, List, [], ◌∷◌, ⊎_elim, ℕ, zero, suc, ◌*◌, ◌/◌, ◌%◌, ◌-◌, ◌^◌, ◌≤◌, ◌<◌, arith, pow-suc, div-div-eq-div-mul, div-one, eq-or-lt_of_le, not-suc-le-zero, le_of_suc-le-suc, count_trailing_zeros, under, T, eqb, eqb→eq, length, pow_pos, eq-eqb, ne_eqb, Some}
 use Rattle.answer.proofs.Tests.{left, right}
 use Rattle.intervals.specs.Sets.{has}
 use Rattle.intervals.proofs.Width.{bit_held}
 use Rattle.intervals.specs.Intervals.{intervals, nth, numbered, number_of}
 use Rattle.intervals.specs.declared.interval.Interval.{Interval}
-use Rattle.intervals.specs.declared.interval.MaybeInterval.TheVariants.{Is}
 use Rattle.rules.specs.Classes.{keep, intervals_in}
 
 -- the members of a list at whose places a number has a bit
@@ -37,7 +36,7 @@ in_marked n = keep_marked 0 intervals tt n ∙ ap (marked intervals) (div-one n)
 
 record Lowest (l : List Interval) (n k : ℕ) : Type 0 where
   pub first : Interval
-  pub there : nth l k ≡ Is first
+  pub there : nth l k ≡ Some first
   pub within : k < length l
   pub bit : 2 ^ k ≤ n
   pub rest : marked l n ≡ first ∷ marked l (n - 2 ^ k)
@@ -88,7 +87,7 @@ lowest (suc d) (i ∷ more) n h p s =
 -- the first interval of a set, and its number
 pub record First (n k : ℕ) : Type 0 where
   pub first : Interval
-  pub there : numbered k ≡ Is first
+  pub there : numbered k ≡ Some first
   pub within : k < 23
   pub bit : 2 ^ k ≤ n
   pub rest : intervals_in n ≡ first ∷ intervals_in (n - 2 ^ k)

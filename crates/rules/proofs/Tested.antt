@@ -1,7 +1,7 @@
 -- What the code computes of a rooted set is what the rules say of it: one test at each of the 2,048, in two halves, which
 -- reads the set once.
 --     rule       the test of a number holds
-use Rattle.answer.proofs.Kit.{◌≡◌, Bool, true, cond, not, ◌&&◌, ◌||◌, List, [], ◌∷◌, ◌++◌, map, ℕ, zero, suc, ◌+◌, bit_and, bit_or, bit_xor, T, eqb}
+use Rattle.answer.proofs.Kit.{◌≡◌, Bool, true, cond, not, ◌&&◌, ◌||◌, List, [], ◌∷◌, ◌++◌, map, ℕ, zero, suc, ◌+◌, bit_and, bit_or, bit_xor, T, eqb, Option, Some, None}
 use Rattle.answer.specs.Words.{bytes}
 use Rattle.answer.proofs.Chosen.{test}
 use Rattle.answer.proofs.Tests.{left, right, all}
@@ -9,8 +9,6 @@ use Rattle.intervals.specs.Sets.{is_rooted, bits}
 use Rattle.intervals.specs.Intervals.{numeric_of, set_of, number_of}
 use Rattle.intervals.specs.declared.interval.Interval.{Interval}
 use Rattle.intervals.specs.declared.interval.Interval.TheVariants.{Ninth}
-use Rattle.intervals.specs.declared.interval.MaybeInterval.{MaybeInterval}
-use Rattle.intervals.specs.declared.interval.MaybeInterval.TheVariants.{Is, Nothing}
 use Rattle.intervals.proofs.Rooted.{rooted, by_halves}
 use Rattle.qualities.specs.Masks.{alteration_bits, extension_bits, stack_bits, own_bits}
 use Rattle.qualities.specs.declared.quality.ChordQuality.{ChordQuality}
@@ -24,9 +22,9 @@ use Rattle.rules.proofs.Agree.{same_bool, same_all}
 use Rattle.rules.proofs.Computed.{named_computed}
 
 -- a modifier as a number
-abbrev pub place_of : MaybeInterval → ℕ
-place_of (Is i) = number_of i
-place_of Nothing = 23
+abbrev pub place_of : Option Interval → ℕ
+place_of (Some i) = number_of i
+place_of None = 23
 
 abbrev pub nine_of : ChordQuality → List Interval → ℕ
 nine_of q i = set_of (only (nine q (adds_of q i)) Ninth)

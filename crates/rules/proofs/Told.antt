@@ -1,11 +1,9 @@
 -- What the code computes of a rooted set, step by step, is what the paper says of it: by the test at each of the 2,048.
-use Rattle.answer.proofs.Kit.{◌≡◌, sym, ap, ◌∙◌, true, List, [], ◌++◌, map, ℕ, bit_and, bit_or, eqb→eq}
+use Rattle.answer.proofs.Kit.{◌≡◌, sym, ap, ◌∙◌, true, List, [], ◌++◌, map, ℕ, bit_and, bit_or, eqb→eq, Option, Some, None}
 use Rattle.answer.specs.Words.{bytes}
 use Rattle.intervals.specs.Sets.{is_rooted, bits}
 use Rattle.intervals.specs.Intervals.{numbered, numeric_of, set_of}
 use Rattle.intervals.specs.declared.interval.Interval.{Interval}
-use Rattle.intervals.specs.declared.interval.MaybeInterval.{MaybeInterval}
-use Rattle.intervals.specs.declared.interval.MaybeInterval.TheVariants.{Is, Nothing}
 use Rattle.intervals.proofs.Rows.{numbered_back, numbered_none}
 use Rattle.qualities.specs.Masks.{alteration_bits, extension_bits, stack_bits, own_bits}
 use Rattle.qualities.specs.declared.quality.ChordQuality.{ChordQuality}
@@ -19,9 +17,9 @@ use Rattle.rules.proofs.Agree.{same_bool→eq, same_all→eq}
 use Rattle.rules.proofs.Tested.{place_of, nine_of, adds_found, rule}
 
 -- a modifier's number names it
-at_place : (n : MaybeInterval) → numbered (place_of n) ≡ n
-at_place (Is i) = numbered_back i
-at_place Nothing = numbered_none
+at_place : (n : Option Interval) → numbered (place_of n) ≡ n
+at_place (Some i) = numbered_back i
+at_place None = numbered_none
 
 module _ (s : ℕ) (is : is_rooted s ≡ true) where
   abbrev i : List Interval

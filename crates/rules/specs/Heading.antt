@@ -1,13 +1,11 @@
 -- What stands before the parentheses of a suffix: paper 01, "The suffix (002, 003)" ("quality with modifier, worded as 002 words
 -- them, `sus`").
-use Rattle.std.specs.Prelude.{Bool, cond, ◌&&◌, List, [], ◌∷◌, ◌++◌, ℕ}
+use Rattle.std.specs.Prelude.{Bool, cond, ◌&&◌, List, [], ◌∷◌, ◌++◌, ℕ, Option, Some, None}
 use Prim.Native.String.{String}
 use Rattle.answer.specs.Words.{bytes}
 use Rattle.intervals.specs.Intervals.{notation_of}
 use Rattle.intervals.specs.declared.interval.Interval.{Interval}
 use Rattle.intervals.specs.declared.interval.Interval.TheVariants.{Ninth}
-use Rattle.intervals.specs.declared.interval.MaybeInterval.{MaybeInterval}
-use Rattle.intervals.specs.declared.interval.MaybeInterval.TheVariants.{Is, Nothing}
 use Rattle.qualities.specs.declared.quality.ChordQuality.{ChordQuality}
 use Rattle.qualities.specs.declared.quality.ChordQuality.TheVariants.{Maj, Maj6, Maj7, Dominant7, Mi, Mi6, Mi7, MiMaj7, Augmented, Diminished, Diminished7, Power, Bass}
 use Rattle.rules.specs.Classes.{among, intervals_of}
@@ -31,9 +29,9 @@ wording Power = []
 wording Bass = []
 
 -- how a chord writes an interval, or a text where there is none
-abbrev pub or_else : String → MaybeInterval → List ℕ
-or_else without (Is i) = notation_of i
-or_else without Nothing = bytes without
+abbrev pub or_else : String → Option Interval → List ℕ
+or_else without (Some i) = notation_of i
+or_else without None = bytes without
 
 -- "Maj, Mi and Mi6 show no modifier", and the diminished qualities have none
 abbrev pub shows_modifier : ChordQuality → Bool
@@ -44,9 +42,9 @@ abbrev pub unmodified : ChordQuality → List ℕ
 unmodified q = cond (is_one_of q (Maj7 ∷ Dominant7 ∷ Mi7 ∷ MiMaj7 ∷ [])) (bytes "7") []
 
 -- the modifier, where the quality shows one, or what 002 writes where there is none
-abbrev pub modified : ChordQuality → MaybeInterval → List ℕ
-modified q (Is i) = cond (shows_modifier q) (notation_of i) []
-modified q Nothing = unmodified q
+abbrev pub modified : ChordQuality → Option Interval → List ℕ
+modified q (Some i) = cond (shows_modifier q) (notation_of i) []
+modified q None = unmodified q
 
 -- "A 9 among the adds of Maj6 or Mi6 goes in behind the first `6`"
 abbrev pub is_sixth : ChordQuality → Bool

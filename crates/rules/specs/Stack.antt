@@ -1,5 +1,5 @@
 -- What becomes of the extensions: paper 01, "The suffix (002, 003)", its third rule.
-use Rattle.std.specs.Prelude.{Bool, true, cond, not, ◌&&◌, ◌||◌, List, [], ◌∷◌, ◌++◌, map, leb}
+use Rattle.std.specs.Prelude.{Bool, true, cond, not, ◌&&◌, ◌||◌, List, [], ◌∷◌, ◌++◌, map, leb, Option, Some, None}
 use Rattle.intervals.specs.Sets.{is_in}
 use Rattle.intervals.specs.Intervals.{degree_of, numeric_of, class_of}
 use Rattle.qualities.specs.Qualities.{quality_number}
@@ -8,8 +8,6 @@ use Rattle.intervals.specs.declared.interval.Interval.{Interval}
 use Rattle.intervals.specs.declared.interval.Interval.TheVariants.{MajorSeventh, Ninth, Eleventh, Thirteenth}
 use Rattle.intervals.specs.declared.interval.IntDegree.{IntDegree}
 use Rattle.intervals.specs.declared.interval.IntDegree.TheVariants.{Seventh}
-use Rattle.intervals.specs.declared.interval.MaybeInterval.{MaybeInterval}
-use Rattle.intervals.specs.declared.interval.MaybeInterval.TheVariants.{Is, Nothing}
 use Rattle.qualities.specs.declared.quality.ChordQuality.{ChordQuality}
 use Rattle.qualities.specs.declared.quality.ChordQuality.TheVariants.{Maj7, Dominant7, Mi7, MiMaj7, Diminished, Diminished7}
 use Rattle.rules.specs.Classes.{is, keep}
@@ -50,15 +48,15 @@ unstacked_of q ints =
     let degrees = degrees_of q ints in keep (λ e. not (reaches degrees (mask_of q).stack (degree_of e))) (Ninth ∷ Eleventh ∷ Thirteenth ∷ [])
 
 -- the last of a list, if it has one
-unfoldable pub last_of : List Interval → MaybeInterval
-last_of [] = Nothing
-last_of (i ∷ []) = Is i
+unfoldable pub last_of : List Interval → Option Interval
+last_of [] = None
+last_of (i ∷ []) = Some i
 last_of (i ∷ j ∷ more) = last_of (j ∷ more)
 
 -- "Any other extension becomes the modifier, replacing an earlier one": the last that is stacked
-unfoldable pub modifier_of : ChordQuality → List Interval → MaybeInterval
+unfoldable pub modifier_of : ChordQuality → List Interval → Option Interval
 modifier_of q ints =
-    let degrees = degrees_of q ints in cond (is_diminished q) Nothing (last_of (keep (is_stacked q degrees) (extensions_of q ints)))
+    let degrees = degrees_of q ints in cond (is_diminished q) None (last_of (keep (is_stacked q degrees) (extensions_of q ints)))
 
 -- a major seventh; "else it is an add unless its class is in the quality's own set"
 unfoldable pub is_add : ChordQuality → List IntDegree → Interval → Bool

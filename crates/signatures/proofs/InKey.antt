@@ -3,15 +3,13 @@
 --     past_last    and where it has none, the line is the empty part at the end of the flat listing
 --     handed_back  so a reference that `line` hands back shows that text
 use denote.Ref.{Bor}
-use Rattle.answer.proofs.Kit.{◌≡◌, refl, ap, ap₂, ◌∙◌, true, List, ℕ, length, take, drop, ℤ, Bor}
+use Rattle.answer.proofs.Kit.{◌≡◌, refl, ap, ap₂, ◌∙◌, true, List, ℕ, length, take, drop, ℤ, Bor, Option, Some, None}
 use Rattle.answer.specs.Lines.{line_at}
 use Rattle.names.specs.Names.{table_of}
 use Rattle.names.specs.declared.table.Names.{Names}
 use Rattle.names.specs.declared.table.Names.TheVariants.{Flats, Sharps}
 use Rattle.names.proofs.Named.{table_brief}
 use Rattle.candidates.specs.declared.parts.Candidate.{Candidate}
-use Rattle.candidates.specs.declared.parts.MaybeCandidate.{MaybeCandidate}
-use Rattle.candidates.specs.declared.parts.MaybeCandidate.TheVariants.{Is, Nothing}
 use Rattle.candidates.specs.Candidates.{candidate_at, symbol, candidates_of}
 use Rattle.candidates.proofs.Laws.{symbol_of, candidate_line}
 use Rattle.signatures.specs.declared.line.Part.{Part}
@@ -35,17 +33,17 @@ module _ (codes : List ℕ) (number : ℕ) (fifths : ℤ) (key : is_signature fi
   part = part_of (listing Flats codes) (listing Sharps codes) number fifths
 
   -- the line of the number, in the listing that the key calls for
-  its_line : (c : MaybeCandidate) → candidate_at codes number ≡ c → line_at (listing_in names (listing Flats codes) (listing Sharps codes)) number ≡ symbol_of (table_of names) c
+  its_line : (c : Option Candidate) → candidate_at codes number ≡ c → line_at (listing_in names (listing Flats codes) (listing Sharps codes)) number ≡ symbol_of (table_of names) c
   its_line c is =
       ap (λ (t : List ℕ). line_at t number) (chosen names codes) ∙ candidate_line (table_of names) (table_brief names) codes number
       ∙ ap (symbol_of (table_of names)) is
 
-  pub past_last : candidate_at codes number ≡ Nothing → part ≡ no_line (length (listing Flats codes))
-  past_last is = part_none (listing Flats codes) (listing Sharps codes) number fifths key (its_line Nothing is)
+  pub past_last : candidate_at codes number ≡ None → part ≡ no_line (length (listing Flats codes))
+  past_last is = part_none (listing Flats codes) (listing Sharps codes) number fifths key (its_line None is)
 
-  module _ (c : Candidate) (is : candidate_at codes number ≡ Is c) where
+  module _ (c : Candidate) (is : candidate_at codes number ≡ Some c) where
     pub in_key : (part.names ≡ names) × (bytes_of (listing Flats codes) (listing Sharps codes) part ≡ symbol (table_of names) c)
-    in_key = part_line (listing Flats codes) (listing Sharps codes) number fifths key (symbol (table_of names) c) (its_line (Is c) is)
+    in_key = part_line (listing Flats codes) (listing Sharps codes) number fifths key (symbol (table_of names) c) (its_line (Some c) is)
 
     pub handed_back : (flat sharp r : Bor (List ℕ)) → flat.now ≡ listing Flats codes → sharp.now ≡ listing Sharps codes
         → PartOf (part_of flat.now sharp.now number fifths) flat sharp r → r.now ≡ symbol (table_of names) c

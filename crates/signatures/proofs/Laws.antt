@@ -5,14 +5,11 @@
 --     part_none      and where that has none, the empty part at the end of the flat listing
 --     part_outside   as it is outside the keys
 use denote.Ref.{Bor}
-use mathlib.Core.Option.{Option, none, some}
-use Rattle.answer.proofs.Kit.{◌≡◌, refl, ap, ◌∙◌, true, false, cond, List, ℕ, ◌+◌, ◌≤◌, arith, length, take, drop, ℤ, Bor}
+use Rattle.answer.proofs.Kit.{◌≡◌, refl, ap, ◌∙◌, true, false, cond, List, ℕ, ◌+◌, ◌≤◌, arith, length, take, drop, ℤ, Bor, Some, None, Option}
 use Rattle.answer.specs.Lines.{line_at, line_start}
 use Rattle.answer.proofs.Standing.{line_bytes, line_within}
 use Rattle.names.specs.declared.table.Names.{Names}
 use Rattle.names.specs.declared.table.Names.TheVariants.{Flats, Sharps}
-use Rattle.signatures.specs.declared.line.Called.{Called}
-use Rattle.signatures.specs.declared.line.Called.TheVariants.{For, Nothing}
 use Rattle.signatures.specs.declared.line.Part.{Part}
 use Rattle.signatures.specs.Signature.{is_signature, names_for, names_in}
 use Rattle.signatures.specs.Part.{found_at, found_in, listing_in, no_line, part_at, part_for, part_of}
@@ -31,16 +28,16 @@ module _ (flat sharp : List ℕ) where
     where
       by_line : (o : Option (List ℕ)) → line_at (listing_in names flat sharp) number ≡ o
           → IsWithin (part_at names (length flat) (found_at (line_start (listing_in names flat sharp) number) o))
-      by_line none e = omega arith
-      by_line (some line) e = omega (arith, line_within (listing_in names flat sharp) number line e)
+      by_line None e = omega arith
+      by_line (Some line) e = omega (arith, line_within (listing_in names flat sharp) number line e)
 
   pub part_within : (number : ℕ) (fifths : ℤ) → IsWithin (part_of flat sharp number fifths)
   unfolding part_of
   part_within number fifths = by_names (names_in fifths)
     where
-      by_names : (called : Called) → IsWithin (part_for called flat sharp number)
-      by_names (For names) = line_in names number
-      by_names Nothing = omega arith
+      by_names : (called : Option Names) → IsWithin (part_for called flat sharp number)
+      by_names (Some names) = line_in names number
+      by_names None = omega arith
 
 -- the bytes of a part
 abbrev pub bytes_of : List ℕ → List ℕ → Part → List ℕ
@@ -54,16 +51,16 @@ module _ (flat sharp : List ℕ) (number : ℕ) (fifths : ℤ) where
     found : (o : Option (List ℕ)) → line_at chosen number ≡ o → part_of flat sharp number fifths ≡ part_at (names_for fifths) (length flat) (found_at (line_start chosen number) o)
     unfolding part_of names_in found_in
     found o e =
-        ap (λ b. part_for (cond b (For (names_for fifths)) Nothing) flat sharp number) key
+        ap (λ b. part_for (cond b (Some (names_for fifths)) None) flat sharp number) key
         ∙ ap (λ (x : Option (List ℕ)). part_at (names_for fifths) (length flat) (found_at (line_start chosen number) x)) e
 
-    pub part_line : (line : List ℕ) → line_at chosen number ≡ some line
+    pub part_line : (line : List ℕ) → line_at chosen number ≡ Some line
         → ((part_of flat sharp number fifths).names ≡ names_for fifths) × (bytes_of flat sharp (part_of flat sharp number fifths) ≡ line)
-    part_line line e = rw (found (some line) e) (refl, line_bytes chosen number line e)
+    part_line line e = rw (found (Some line) e) (refl, line_bytes chosen number line e)
 
-    pub part_none : line_at chosen number ≡ none → part_of flat sharp number fifths ≡ no_line (length flat)
-    part_none e = found none e
+    pub part_none : line_at chosen number ≡ None → part_of flat sharp number fifths ≡ no_line (length flat)
+    part_none e = found None e
 
   pub part_outside : is_signature fifths ≡ false → part_of flat sharp number fifths ≡ no_line (length flat)
   unfolding part_of names_in
-  part_outside e = ap (λ b. part_for (cond b (For (names_for fifths)) Nothing) flat sharp number) e
+  part_outside e = ap (λ b. part_for (cond b (Some (names_for fifths)) None) flat sharp number) e

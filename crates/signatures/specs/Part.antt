@@ -1,24 +1,19 @@
 -- A candidate's line as a part of one of two listings: paper 02, Q-9.
-use Rattle.std.specs.Prelude.{◌≡◌, List, ℕ, ◌+◌, ℤ, length, take, drop}
-use Rattle.std.proofs.Math.Option.{Option, none, some}
+use Rattle.std.specs.Prelude.{◌≡◌, List, ℕ, ◌+◌, ℤ, length, take, drop, Some, None, Option}
 use Rattle.std.specs.Borrow.{Bor}
 use Rattle.answer.specs.Lines.{line_at, line_start}
 use Rattle.names.specs.declared.table.Names.{Names}
 use Rattle.names.specs.declared.table.Names.TheVariants.{Flats, Sharps}
-use Rattle.signatures.specs.declared.found.Found.{Found}
-use Rattle.signatures.specs.declared.found.Found.TheVariants.{At, Nowhere}
-use Rattle.signatures.specs.declared.line.Called.{Called}
-use Rattle.signatures.specs.declared.line.Called.TheVariants.{For, Nothing}
 use Rattle.signatures.specs.declared.line.Part.{Part}
 use Rattle.signatures.specs.Signature.{names_in}
 
 -- a line, where there is one: where it begins, and its length "without its LF"
-abbrev pub found_at : ℕ → Option (List ℕ) → Found
-found_at start none = Nowhere
-found_at start (some line) = At start (length line)
+abbrev pub found_at : ℕ → Option (List ℕ) → Option (ℕ × ℕ)
+found_at start None = None
+found_at start (Some line) = Some (start, length line)
 
 -- the line of a number from 0 in a listing
-unfoldable pub found_in : List ℕ → ℕ → Found
+unfoldable pub found_in : List ℕ → ℕ → Option (ℕ × ℕ)
 found_in listing number = found_at (line_start listing number) (line_at listing number)
 
 -- of two, the listing with these names
@@ -31,14 +26,14 @@ abbrev pub no_line : ℕ → Part
 no_line flatLength = record { names = Flats; start = flatLength; length = 0 }
 
 -- what was found, as a part of the listing with these names; "a number beyond the chosen listing's lines .. yields" that one
-abbrev pub part_at : Names → ℕ → Found → Part
-part_at names flatLength (At start length) = record { names = names; start = start; length = length }
-part_at names flatLength Nowhere = no_line flatLength
+abbrev pub part_at : Names → ℕ → Option (ℕ × ℕ) → Part
+part_at names flatLength (Some found) = record { names = names; start = found.0; length = found.1 }
+part_at names flatLength None = no_line flatLength
 
 -- the line in the names that a key calls for; and "a key out of range" does too
-abbrev pub part_for : Called → List ℕ → List ℕ → ℕ → Part
-part_for (For names) flat sharp number = part_at names (length flat) (found_in (listing_in names flat sharp) number)
-part_for Nothing flat sharp number = no_line (length flat)
+abbrev pub part_for : Option Names → List ℕ → List ℕ → ℕ → Part
+part_for (Some names) flat sharp number = part_at names (length flat) (found_in (listing_in names flat sharp) number)
+part_for None flat sharp number = no_line (length flat)
 
 -- "that candidate's line as a part of whichever listing the key calls for"
 unfoldable pub part_of : List ℕ → List ℕ → ℕ → ℤ → Part

@@ -1,10 +1,8 @@
 -- Key signatures: paper 02, Q-9.
-use Rattle.std.specs.Prelude.{Bool, cond, ◌&&◌, ℤ, pos, neg_ℤ}
+use Rattle.std.specs.Prelude.{Bool, cond, ◌&&◌, ℤ, pos, neg_ℤ, Option, Some, None}
 use Rattle.std.specs.Int.Signed.{le_z, lt_z}
 use Rattle.names.specs.declared.table.Names.{Names}
 use Rattle.names.specs.declared.table.Names.TheVariants.{Flats, Sharps}
-use Rattle.signatures.specs.declared.line.Called.{Called}
-use Rattle.signatures.specs.declared.line.Called.TheVariants.{For, Nothing}
 
 -- "a key signature from -7 to 7 fifths"
 abbrev pub is_signature : ℤ → Bool
@@ -15,5 +13,5 @@ abbrev pub names_for : ℤ → Names
 names_for fifths = cond (lt_z (pos 0) fifths) Sharps Flats
 
 -- and none in "a key out of range"
-unfoldable pub names_in : ℤ → Called
-names_in fifths = cond (is_signature fifths) (For (names_for fifths)) Nothing
+unfoldable pub names_in : ℤ → Option Names
+names_in fifths = cond (is_signature fifths) (Some (names_for fifths)) None

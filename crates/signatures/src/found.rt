@@ -5,13 +5,7 @@ ghost use Rattle.signatures.specs.Part.{found_in};
 const LINE_FEED: u8 = 10;
 
 // Where a line begins and how many bytes it has, its LF not counted.
-#[derive(Clone, Copy)]
-pub enum Found {
-    At(usize, usize),
-    Nowhere,
-}
-
-pub(crate) fn line_in(text: &[u8], number: u32) -> Found
+pub(crate) fn line_in(text: &[u8], number: u32) -> Option<(usize, usize)>
     ensures { result ≡ found_in text.now number }
 {
     let mut start = 0;
@@ -20,12 +14,12 @@ pub(crate) fn line_in(text: &[u8], number: u32) -> Found
     while i < text.len() {
         if text[i] == LINE_FEED {
             if left == 0 {
-                return Found::At(start, i - start);
+                return Some((start, i - start));
             }
             left -= 1;
             start = i + 1;
         }
         i += 1;
     }
-    Found::Nowhere
+    None
 }

@@ -3,19 +3,12 @@ ghost use Rattle.std.specs.Prelude.{◌≡◌};
 ghost use Rattle.signatures.specs.Signature.{names_in};
 ghost use Rattle.signatures.specs.Part.{listing_in, part_at, part_of, PartOf};
 
-use crate::found::{Found, line_in};
+use crate::found::line_in;
 use names::table::Names;
 
 const MOST_FLATS: i32 = -7;
 
 const MOST_SHARPS: i32 = 7;
-
-// The names that a key signature calls for.
-#[derive(Clone, Copy)]
-pub enum Called {
-    For(Names),
-    Nothing,
-}
 
 // A part of the listing that has these names: its first byte, and how many it has.
 #[derive(Clone, Copy)]
@@ -26,32 +19,32 @@ pub struct Part {
 }
 
 // Sharp names in keys of sharps, and flat ones in all others.
-fn names_in(fifths: i32) -> Called
+fn names_in(fifths: i32) -> Option<Names>
     ensures { result ≡ names_in fifths }
 {
     if fifths < MOST_FLATS {
-        return Called::Nothing;
+        return None;
     }
     if fifths > MOST_SHARPS {
-        return Called::Nothing;
+        return None;
     }
     if fifths > 0 {
-        return Called::For(Names::Sharps);
+        return Some(Names::Sharps);
     }
-    Called::For(Names::Flats)
+    Some(Names::Flats)
 }
 
 // The line that was found in the listing with these names; where none was, the empty part at the end of the flat listing.
-fn part_at(names: Names, end: usize, found: Found) -> Part
+fn part_at(names: Names, end: usize, found: Option<(usize, usize)>) -> Part
     ensures { result ≡ part_at names end found }
 {
     match found {
-        Found::At(start, length) => Part {
+        Some((start, length)) => Part {
             names,
             start,
             length,
         },
-        Found::Nowhere => Part {
+        None => Part {
             names: Names::Flats,
             start: end,
             length: 0,
@@ -74,8 +67,8 @@ pub fn line_part<'a>(flat: &'a [u8], sharp: &'a [u8], number: u32, fifths: i32) 
     ensures { result ≡ part_of flat.now sharp.now number fifths }
 {
     match names_in(fifths) {
-        Called::Nothing => part_at(Names::Flats, flat.len(), Found::Nowhere),
-        Called::For(names) => {
+        None => part_at(Names::Flats, flat.len(), None),
+        Some(names) => {
             let listing = listing_in(names, flat, sharp);
             part_at(names, flat.len(), line_in(listing, number))
         }

@@ -1,11 +1,12 @@
 -- What a call for the tones has to give, by the tests on its numbers, for any table of degrees.
-use Rattle.answer.proofs.Kit.{◌≡◌, ap, Bool, true, false, cond, ℕ}
+use Rattle.answer.specs.declared.refusal.Refusal.{Refusal}
+use Rattle.notes.specs.declared.note.Note.{Note}
+use Rattle.answer.proofs.Kit.{◌≡◌, ap, Bool, true, false, cond, ℕ, Result}
 use Rattle.answer.specs.Replies.{refuse}
 use Rattle.answer.specs.declared.refusal.Refusal.TheVariants.{NotASet}
 use Rattle.intervals.specs.Sets.{is_rooted}
 use Rattle.intervals.specs.declared.interval.Interval.{Interval}
 use Rattle.intervals.specs.declared.interval.IntDegree.{IntDegree}
-use Rattle.notes.specs.declared.note.NoteAnswer.{NoteAnswer}
 use Rattle.names.specs.Names.{flats, note_in}
 use Rattle.spelling.specs.Tones.{tones_on, tones_reply}
 
@@ -14,6 +15,6 @@ module _ (degrees : Interval → IntDegree) (root s : ℕ) where
   unfolding tones_reply
   not_rooted e = ap (λ (b : Bool). cond b (tones_on degrees (note_in flats root) s) (refuse NotASet)) e
 
-  pub by_the_note : is_rooted s ≡ true → (n : NoteAnswer) → note_in flats root ≡ n → tones_reply degrees root s ≡ tones_on degrees n s
+  pub by_the_note : is_rooted s ≡ true → (n : Result Note Refusal) → note_in flats root ≡ n → tones_reply degrees root s ≡ tones_on degrees n s
   unfolding tones_reply
   by_the_note e n is = rw (e, is)

@@ -3,7 +3,8 @@
 --                      and another, at each rooted set, that its digits' sum is at most 35
 --     tones_room_lem   no call's answer has more than 34 bytes
 --     tones_reached    one has 34
-use Rattle.answer.proofs.Kit.{◌≡◌, refl, sym, subst, Bool, true, true≢false, false, ◌&&◌, List, [], ◌∷◌, ℕ, zero, suc, ◌+◌, ◌/◌, ◌%◌, ◌^◌, ◌≤◌, arith, T, eqb, leb, eqb→eq, leb→le, length, length-append}
+use Rattle.answer.specs.declared.refusal.Refusal.{Refusal}
+use Rattle.answer.proofs.Kit.{◌≡◌, refl, sym, subst, Bool, true, true≢false, false, ◌&&◌, List, [], ◌∷◌, ℕ, zero, suc, ◌+◌, ◌/◌, ◌%◌, ◌^◌, ◌≤◌, arith, T, eqb, leb, eqb→eq, leb→le, length, length-append, Result, Ok, Err}
 use Rattle.answer.specs.Words.{bytes}
 use Rattle.answer.specs.Replies.{NotForRoom, AtMost}
 use Rattle.answer.proofs.Tests.{left, right, all}
@@ -13,8 +14,6 @@ use Rattle.intervals.specs.declared.interval.Interval.{Interval}
 use Rattle.intervals.proofs.Rooted.{at_rooted}
 use Rattle.intervals.proofs.Rows.{of_numbered, at_interval}
 use Rattle.notes.specs.declared.note.Note.{Note}
-use Rattle.notes.specs.declared.note.NoteAnswer.{NoteAnswer}
-use Rattle.notes.specs.declared.note.NoteAnswer.TheVariants.{Is, Refused}
 use Rattle.names.specs.Names.{flats, flat, note_in}
 use Rattle.names.proofs.Named.{none_in}
 use Rattle.rules.specs.Classes.{intervals_of}
@@ -73,7 +72,7 @@ are_light [] found = true
 are_light (w ∷ ws) found = leb (sum w found) 35 && are_light ws found
 
 light : (table : List Note) (ws : List ℕ) → T (are_right table ws) → (found : List Interval) → T (are_light ws found)
-    → (class : ℕ) (root : Note) → note_in table class ≡ Is root → length (spaced (tone_names spelled_by root found)) ≤ 35
+    → (class : ℕ) (root : Note) → note_in table class ≡ Ok root → length (spaced (tone_names spelled_by root found)) ≤ 35
 unfolding are_right are_light
 light [] [] t found l class root e = absurd (true≢false cc)
 light [] (w ∷ ws) t found l class root e = absurd t
@@ -98,10 +97,10 @@ joined_length [] h = omega arith
 joined_length (t ∷ more) h = omega arith
 
 -- on what a table gave for the root class
-on_root : (root s : ℕ) → is_rooted s ≡ true → (a : NoteAnswer) → note_in flats root ≡ a → AtMost 34 (tones_on spelled_by a s)
+on_root : (root s : ℕ) → is_rooted s ≡ true → (a : Result Note Refusal) → note_in flats root ≡ a → AtMost 34 (tones_on spelled_by a s)
 unfolding tones_of tones_on
-on_root root s is (Is n) e = joined_length (tone_names spelled_by n (intervals_of s)) (light flats weights flats_right (intervals_of s) (all_light s is) root n e)
-on_root root s is (Refused why) e = subst NotForRoom (none_in flats root why e) tt
+on_root root s is (Ok n) e = joined_length (tone_names spelled_by n (intervals_of s)) (light flats weights flats_right (intervals_of s) (all_light s is) root n e)
+on_root root s is (Err why) e = subst NotForRoom (none_in flats root why e) tt
 
 pub tones_room_lem : (root s : ℕ) → AtMost 34 (tones_reply spelled_by root s)
 tones_room_lem root s = by_set (is_rooted s) refl

@@ -2,7 +2,7 @@
 --     row_of, row_each     the row, and that it is each interval's tone
 --     puts                one tone
 --     row_some, row_long, given     how long it is, and its names joined
-use Rattle.answer.proofs.Kit.{◌≡◌, refl, ap, ◌∙◌, List, [], ◌∷◌, ◌++◌, append_assoc, ℕ, zero, suc, ◌+◌, ◌*◌, ◌-◌, ◌≤◌, arith, not-suc-le-zero, T, length, take, drop, length-append}
+use Rattle.answer.proofs.Kit.{◌≡◌, refl, ap, ◌∙◌, List, [], ◌∷◌, ◌++◌, append_assoc, ℕ, zero, suc, ◌+◌, ◌*◌, ◌-◌, ◌≤◌, arith, not-suc-le-zero, T, length, take, drop, length-append, Option, Some, None}
 use Rattle.answer.specs.Words.{bytes, low, packed, place_after, put_at}
 use Rattle.answer.proofs.Digits.{is_short, are_bytes, short_length}
 use Rattle.answer.proofs.Writing.{Puts, no_puts, then_put}
@@ -10,8 +10,6 @@ use Rattle.intervals.specs.Intervals.{numbered}
 use Rattle.notes.specs.declared.note.Note.{Note}
 use Rattle.intervals.specs.declared.interval.Interval.{Interval}
 use Rattle.intervals.specs.declared.interval.IntDegree.{IntDegree}
-use Rattle.intervals.specs.declared.interval.MaybeInterval.{MaybeInterval}
-use Rattle.intervals.specs.declared.interval.MaybeInterval.TheVariants.{Is, Nothing}
 use Rattle.rules.specs.Classes.{intervals_in}
 use Rattle.rules.proofs.First.{none_in}
 use Rattle.rules.proofs.Walk.{Each}
@@ -33,10 +31,10 @@ pub row_each : (degrees : Interval → IntDegree) (root : Note) → Each (row_of
 unfolding spaced
 row_each degrees root = record { none = rw none_in; more = λ set k f. rw (f.rest, f.there) (simp append_assoc) }
 
-numbered_short : (degrees : Interval → IntDegree) (root : Note) (m : MaybeInterval) → T (is_short (numbered_name degrees root m))
+numbered_short : (degrees : Interval → IntDegree) (root : Note) (m : Option Interval) → T (is_short (numbered_name degrees root m))
 unfolding is_short are_bytes
-numbered_short degrees root (Is i) = tone_short degrees root i
-numbered_short degrees root Nothing = tt
+numbered_short degrees root (Some i) = tone_short degrees root i
+numbered_short degrees root None = tt
 
 -- a space and the name, from what the two calls told
 pub puts : (degrees : Interval → IntDegree) (root : Note) (l : List ℕ) (at k : ℕ) → at + length (tone_at degrees root k) + 8 ≤ length l

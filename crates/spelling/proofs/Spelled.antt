@@ -1,5 +1,5 @@
 -- Laws of tones.
-use Rattle.answer.proofs.Kit.{◌≡◌, ◌∙◌, true, ℕ, T, leb}
+use Rattle.answer.proofs.Kit.{◌≡◌, ◌∙◌, true, ℕ, T, leb, Option, Some, Ok}
 use Rattle.answer.specs.Words.{packed}
 use Rattle.answer.proofs.Digits.{is_short}
 use Rattle.answer.proofs.Tests.{is_true, all}
@@ -8,20 +8,17 @@ use Rattle.intervals.proofs.Rows.{at_interval}
 use Rattle.notes.specs.Notes.{is_note, is_move, get_note, get_note_answer}
 use Rattle.notes.specs.NoteText.{signs, note_name}
 use Rattle.notes.specs.declared.note.Note.{Note}
-use Rattle.notes.specs.declared.note.NoteAnswer.TheVariants.{Is}
 use Rattle.intervals.specs.declared.interval.Interval.{Interval}
 use Rattle.intervals.specs.declared.interval.IntDegree.{IntDegree}
 use Rattle.intervals.specs.declared.interval.IntDegree.TheVariants.{Root, Second, Third, Fourth, Fifth, Sixth, Seventh}
 use Rattle.intervals.specs.declared.interval.IntDegree.TheVariants as Degree
-use Rattle.intervals.specs.declared.interval.MaybeInterval.{MaybeInterval}
-use Rattle.intervals.specs.declared.interval.MaybeInterval.TheVariants as Number
 use Rattle.notes.proofs.Names.{name_short}
 use Rattle.notes.proofs.Sounding.{move_is}
 use Rattle.spelling.specs.Tones.{tone_of, tone_name}
 use Rattle.spelling.specs.private.Numbers.{numbered_name}
 
 -- a move from a note is not refused
-pub move_given : (n : Note) (semitones degree : ℕ) → is_note n ≡ true → is_move semitones degree ≡ true → get_note_answer n semitones degree ≡ Is (get_note n semitones degree)
+pub move_given : (n : Note) (semitones degree : ℕ) → is_note n ≡ true → is_move semitones degree ≡ true → get_note_answer n semitones degree ≡ Ok (get_note n semitones degree)
 unfolding get_note_answer
 move_given n semitones degree note move = rw (note, move)
 
@@ -52,8 +49,8 @@ unfolding tone_name tone_of
 tone_short degrees n i = name_short (tone_of degrees n i) (move_is n (semitones_of i) (numeric_of (degrees i)))
 
 -- the word of the move at an interval's semitones and degree is that of its tone
-pub tone_worded : (degrees : Interval → IntDegree) (root : Note) (m : MaybeInterval) (i : Interval) (d : IntDegree) (semitones degree r : ℕ)
-    → m ≡ Number.Is i → d ≡ degrees i → semitones ≡ semitones_of i → degree ≡ numeric_of d
+pub tone_worded : (degrees : Interval → IntDegree) (root : Note) (m : Option Interval) (i : Interval) (d : IntDegree) (semitones degree r : ℕ)
+    → m ≡ Some i → d ≡ degrees i → semitones ≡ semitones_of i → degree ≡ numeric_of d
     → r ≡ packed (note_name signs (get_note root semitones degree)) → r ≡ packed (numbered_name degrees root m)
 unfolding tone_name tone_of
 tone_worded degrees root m i d semitones degree r is by st number e = rw is (e ∙ rw (st, number, by))

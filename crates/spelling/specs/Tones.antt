@@ -1,5 +1,6 @@
 -- Spelled tones: paper 01, "Notes" ("Spelled tones (added)"), for any table of degrees, and paper 02, Q-3, which chooses the table.
-use Rattle.std.specs.Prelude.{cond, List, [], ◌∷◌, ◌++◌, map, ℕ}
+use Rattle.answer.specs.declared.refusal.Refusal.{Refusal}
+use Rattle.std.specs.Prelude.{cond, List, [], ◌∷◌, ◌++◌, map, ℕ, Result, Ok, Err}
 use Rattle.answer.specs.Words.{bytes}
 use Rattle.answer.specs.Replies.{Reply, refuse, text}
 use Rattle.answer.specs.declared.refusal.Refusal.TheVariants.{NotASet}
@@ -10,8 +11,6 @@ use Rattle.intervals.specs.declared.interval.IntDegree.{IntDegree}
 use Rattle.notes.specs.Notes.{get_note}
 use Rattle.notes.specs.NoteText.{signs, note_name}
 use Rattle.notes.specs.declared.note.Note.{Note}
-use Rattle.notes.specs.declared.note.NoteAnswer.{NoteAnswer}
-use Rattle.notes.specs.declared.note.NoteAnswer.TheVariants as Root
 use Rattle.names.specs.Names.{flats, note_in}
 use Rattle.rules.specs.Classes.{intervals_of}
 
@@ -46,9 +45,9 @@ unfoldable pub tones_of : (Interval → IntDegree) → Note → ℕ → List ℕ
 tones_of degrees root s = joined (tone_names degrees root (intervals_of s))
 
 -- the same on the note that a table gave for a root class, or its refusal
-unfoldable pub tones_on : (Interval → IntDegree) → NoteAnswer → ℕ → Reply
-tones_on degrees (Root.Is root) s = text (tones_of degrees root s)
-tones_on degrees (Root.Refused why) s = refuse why
+unfoldable pub tones_on : (Interval → IntDegree) → Result Note Refusal → ℕ → Reply
+tones_on degrees (Ok root) s = text (tones_of degrees root s)
+tones_on degrees (Err why) s = refuse why
 
 -- what a call has to give, "root class and rooted set": refusal 1, then 2, or the tones
 unfoldable pub tones_reply : (Interval → IntDegree) → ℕ → ℕ → Reply

@@ -11,14 +11,14 @@ ghost use Rattle.rules.specs.Classes.{intervals_in};
 ghost use Rattle.spelling.specs.Tones.{spelled_by, tone_names, spaced, tones_of, tones_reply};
 ghost use Rattle.spelling.specs.private.Numbers.{numbered_name};
 
-use answer::output::{Output, give};
+use answer::output::give;
 use answer::refusal::Refusal;
 use answer::word::put;
 use descriptors::classes::intervals;
-use intervals::interval::{Interval, MaybeInterval};
+use intervals::interval::Interval;
 use intervals::set::is_rooted;
 use names::table::class_note;
-use notes::note::{Note, NoteAnswer};
+use notes::note::Note;
 
 // A space, as a word.
 const SPACE: u64 = 0x0100000000000020;
@@ -32,8 +32,8 @@ fn tone_word(root: Note, semitones: u32, degree: u32) -> u64
     ensures { result ≡ packed (note_name signs (get_note root semitones degree)) }
 {
     match root.get_note(semitones, degree) {
-        NoteAnswer::Is(note) => note.to_word(),
-        NoteAnswer::Refused(_) => 0,
+        Ok(note) => note.to_word(),
+        Err(_) => 0,
     }
 }
 
@@ -43,11 +43,11 @@ fn numbered_word(root: Note, number: u32) -> u64
     ensures { result ≡ packed (numbered_name spelled_by root (numbered number)) }
 {
     match Interval::from_number(number) {
-        MaybeInterval::Is(interval) => {
+        Some(interval) => {
             let degree = interval.to_degree();
             tone_word(root, interval.st(), degree.numeric())
         }
-        MaybeInterval::Nothing => 0,
+        None => 0,
     }
 }
 
@@ -68,7 +68,7 @@ fn put_tones(buffer: &mut [u8], root: Note, set: u32) -> usize
 }
 
 // The tones of a rooted set on a root. The first has a space before it too, which is not given.
-fn tones_on(root: Note, set: u32, out: &mut [u8]) -> Output
+fn tones_on(root: Note, set: u32, out: &mut [u8]) -> Result<usize, Refusal>
     requires { (is_note root ≡ true) × (is_rooted set ≡ true) }
     ensures { Answered (text (tones_of spelled_by root set)) out.old result out.new }
 {
@@ -78,14 +78,14 @@ fn tones_on(root: Note, set: u32, out: &mut [u8]) -> Output
 }
 
 // The tones of a rooted set on a root class, written to the front of `out`.
-pub fn tones(root: u32, set: u32, out: &mut [u8]) -> Output
+pub fn tones(root: u32, set: u32, out: &mut [u8]) -> Result<usize, Refusal>
     ensures { Answered (tones_reply spelled_by root set) out.old result out.new }
 {
     if !is_rooted(set) {
-        return Output::Refused(Refusal::NotASet);
+        return Err(Refusal::NotASet);
     }
     match class_note(root) {
-        NoteAnswer::Is(note) => tones_on(note, set, out),
-        NoteAnswer::Refused(why) => Output::Refused(why),
+        Ok(note) => tones_on(note, set, out),
+        Err(why) => Err(why),
     }
 }

@@ -5,13 +5,12 @@
 --     strict_same_in   and so are the answer and the bytes that are left, in every room
 --     strict_refused   otherwise it is refusal 11, with the place of the first code above 127
 --     strict_room      it asks for at most 840 bytes of room
-use Rattle.answer.proofs.Kit.{◌≡◌, ap, true, false, List, Memᴰ, ◌⊎◌, inl, inr, ℕ, ◌≤◌, ◌<◌, T, leb, leb→le, le-leb, lt-leb, leb-false, not-false, not-true}
+use Rattle.answer.specs.declared.refusal.Refusal.{Refusal}
+use Rattle.answer.proofs.Kit.{◌≡◌, ap, true, false, List, Memᴰ, ◌⊎◌, inl, inr, ℕ, ◌≤◌, ◌<◌, T, leb, leb→le, le-leb, lt-leb, leb-false, not-false, not-true, Result, Ok, Err, ⊤}
 use Rattle.answer.proofs.Tests.{said}
 use Rattle.answer.proofs.First.{IsFirst, first_as}
 use Rattle.answer.proofs.FirstRefused.{refused_says, first_refused_lem, none_refused}
 use Rattle.answer.specs.Replies.{Reply, refuse, text, unless_refused, AtMost, output_of, room_after}
-use Rattle.answer.specs.declared.refusal.Checked.{Checked}
-use Rattle.answer.specs.declared.refusal.Checked.TheVariants.{Passed, Refused}
 use Rattle.answer.specs.declared.refusal.Refusal.TheVariants.{NotAKey}
 use Rattle.notes.specs.declared.note.Note.{Note}
 use Rattle.names.proofs.Named.{are_brief}
@@ -43,19 +42,19 @@ not_above code h = rw (le-leb code 127 h)
 module _ (codes : List ℕ) where
   pub either : AreKeys codes ⊎ FirstAbove codes
   either =
-      refused_says is_no_key not_akey (λ (r : Checked). AreKeys codes ⊎ FirstAbove codes) codes
+      refused_says is_no_key not_akey (λ (r : Result ⊤ Refusal). AreKeys codes ⊎ FirstAbove codes) codes
       (λ h. inl (λ code m. is_key code (h code m)))
       (λ place code h. inr (record { place = place; code = code; first = first_as h (leb-false code 127 (not-true _ h.found)) is_key }))
 
   module _ (table : List Note) where
-    pub replied : (r : Checked) → keys_checked codes ≡ r → strict_reply table codes ≡ unless_refused r (text (candidates_of table codes))
+    pub replied : (r : Result ⊤ Refusal) → keys_checked codes ≡ r → strict_reply table codes ≡ unless_refused r (text (candidates_of table codes))
     unfolding strict_reply
-    replied r e = ap (λ (x : Checked). unless_refused x (text (candidates_of table codes))) e
+    replied r e = ap (λ (x : Result ⊤ Refusal). unless_refused x (text (candidates_of table codes))) e
 
     module _ (h : AreKeys codes) where
       pub strict_same : strict_reply table codes ≡ text (candidates_of table codes)
       unfolding keys_checked
-      strict_same = replied Passed (none_refused is_no_key not_akey codes (λ code m. not_above code (h code m)))
+      strict_same = replied (Ok tt) (none_refused is_no_key not_akey codes (λ code m. not_above code (h code m)))
 
       pub strict_same_in : (room : List ℕ) → (output_of (strict_reply table codes) room ≡ output_of (text (candidates_of table codes)) room)
           × (room_after (strict_reply table codes) room ≡ room_after (text (candidates_of table codes)) room)
@@ -65,10 +64,10 @@ module _ (codes : List ℕ) where
     unfolding keys_checked
     strict_refused h =
         let above : is_no_key h.code ≡ true = rw (lt-leb _ _ h.first.found) in
-        replied (Refused (NotAKey h.place)) (first_refused_lem is_no_key not_akey codes h.place h.code (first_as h.first above not_above))
+        replied (Err (NotAKey h.place)) (first_refused_lem is_no_key not_akey codes h.place h.code (first_as h.first above not_above))
 
     pub strict_room : T (are_brief table) → AtMost 840 (strict_reply table codes)
     unfolding strict_reply keys_checked
     strict_room brief =
-        refused_says is_no_key not_akey (λ (r : Checked). AtMost 840 (unless_refused r (text (candidates_of table codes)))) codes
+        refused_says is_no_key not_akey (λ (r : Result ⊤ Refusal). AtMost 840 (unless_refused r (text (candidates_of table codes)))) codes
         (λ h. candidates_length table brief codes) (λ place code h. tt)

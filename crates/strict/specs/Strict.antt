@@ -1,8 +1,7 @@
 -- The strict entry: paper 02, Q-6.
-use Rattle.std.specs.Prelude.{Bool, not, List, ℕ, leb}
+use Rattle.std.specs.Prelude.{Bool, not, List, ℕ, leb, Result, ⊤}
 use Rattle.answer.specs.First.{first_refused}
 use Rattle.answer.specs.Replies.{Reply, text, unless_refused}
-use Rattle.answer.specs.declared.refusal.Checked.{Checked}
 use Rattle.answer.specs.declared.refusal.Refusal.{Refusal}
 use Rattle.answer.specs.declared.refusal.Refusal.TheVariants.{NotAKey}
 use Rattle.notes.specs.declared.note.Note.{Note}
@@ -21,7 +20,7 @@ abbrev pub not_akey : ℕ → ℕ → Refusal
 not_akey place code = NotAKey place
 
 -- "turn away any list with a code above 127 .. and say the place of the first"
-unfoldable pub keys_checked : List ℕ → Checked
+unfoldable pub keys_checked : List ℕ → Result ⊤ Refusal
 keys_checked codes = first_refused is_no_key not_akey codes
 
 -- what the strict entry replies: that refusal, "before 7", or what the old entry replies

@@ -4,39 +4,38 @@ ghost use Rattle.answer.specs.Replies.{Answered};
 ghost use Rattle.names.specs.Names.{flats, table_of};
 ghost use Rattle.strict.specs.Strict.{keys_checked, strict_reply};
 
-use answer::output::Output;
-use answer::refusal::{Checked, Refusal};
+use answer::refusal::Refusal;
 use candidates::lines::candidates_in;
 use names::table::Names;
 
 const LAST_KEY: u8 = 127;
 
 // The first code that is no key is refused, with its position.
-pub fn check_keys(codes: &[u8]) -> Checked
+pub fn check_keys(codes: &[u8]) -> Result<(), Refusal>
     ensures { result ≡ keys_checked codes.now }
 {
     let mut i = 0;
     while i < codes.len() {
         if codes[i] > LAST_KEY {
-            return Checked::Refused(Refusal::NotAKey(i));
+            return Err(Refusal::NotAKey(i));
         }
         i += 1;
     }
-    Checked::Passed
+    Ok(())
 }
 
 // The candidates of a list of keys, a line each, where every code is one, with the names that are asked for.
-pub fn candidates_strict_in(names: Names, codes: &[u8], out: &mut [u8]) -> Output
+pub fn candidates_strict_in(names: Names, codes: &[u8], out: &mut [u8]) -> Result<usize, Refusal>
     ensures { Answered (strict_reply (table_of names) codes.now) out.old result out.new }
 {
     match check_keys(codes) {
-        Checked::Refused(why) => Output::Refused(why),
-        Checked::Passed => candidates_in(names, codes, out),
+        Err(why) => Err(why),
+        Ok(()) => candidates_in(names, codes, out),
     }
 }
 
 // The same with the flat names.
-pub fn candidates_strict(codes: &[u8], out: &mut [u8]) -> Output
+pub fn candidates_strict(codes: &[u8], out: &mut [u8]) -> Result<usize, Refusal>
     ensures { Answered (strict_reply flats codes.now) out.old result out.new }
 {
     candidates_strict_in(Names::Flats, codes, out)

@@ -8,11 +8,9 @@
 --     guides_climb   the guides go from the lowest up, each the lowest key there is
 --     tensions_descend    the tensions are below the lead and go from the highest down, each the highest key there is
 --     midi_keys      no key of a voicing is above 127
-use Rattle.answer.proofs.Kit.{◌≡◌, refl, sym, subst, ◌∙◌, true, List, [], ◌∷◌, ◌++◌, Memᴰ, Memᴰ-cases_cons, Memᴰ-append_cases, Memᴰ-eq_of_singleton, ◌⊎◌, inl, inr, ⊎_elim, ℕ, suc, ◌+◌, ◌%◌, ◌≤◌, ◌<◌, mod-eq_of_lt, arith, leb, leb→le}
+use Rattle.answer.proofs.Kit.{◌≡◌, refl, sym, subst, ◌∙◌, true, List, [], ◌∷◌, ◌++◌, Memᴰ, Memᴰ-cases_cons, Memᴰ-append_cases, Memᴰ-eq_of_singleton, ◌⊎◌, inl, inr, ⊎_elim, ℕ, suc, ◌+◌, ◌%◌, ◌≤◌, ◌<◌, mod-eq_of_lt, arith, leb, leb→le, Option, Some, None, Ok}
 use Rattle.answer.proofs.Tests.{said}
-use Rattle.answer.specs.declared.refusal.Checked.TheVariants.{Passed}
 use Rattle.intervals.specs.Bass.{is_bass}
-use Rattle.intervals.specs.declared.bass.Bass.{Bass}
 use Rattle.pool.specs.declared.pool.Tone.{Tone}
 use Rattle.pool.specs.Pool.{tones_of}
 use Rattle.pool.specs.Order.{sorted}
@@ -39,7 +37,7 @@ pub record Sounds (lowest highest : ℕ) (tones : List Tone) (key : ℕ) : Type 
   pub not_above : key ≤ highest
 
 -- the classes of a chord that is not refused
-is_class : (l : List Tone) → pairs_checked l ≡ Passed → (t : Tone) → Memᴰ t l → t.class ≤ 11
+is_class : (l : List Tone) → pairs_checked l ≡ (Ok tt) → (t : Tone) → Memᴰ t l → t.class ≤ 11
 is_class l e t h = ((subst (Says l) e (checked_says l)).1 t h).0
 
 module _ (lowest highest : ℕ) (tones : List Tone) (classes_are : (t : Tone) → Memᴰ t tones → t.class ≤ 11) where
@@ -69,9 +67,9 @@ module _ (lowest highest : ℕ) (tones : List Tone) (classes_are : (t : Tone) �
     lead_sounds wanted = ⊎_elim (λ is. inl (sounds (omega arith) (of_more _ _ (λ t m. of_chord t (free_of lowest (suc highest) wanted pool t m).0) (lead_of_lem lowest (suc highest) wanted pool _ is)))) (λ no. inr no) (lead_is lowest (suc highest) wanted pool)
 
 -- the keys below the guides: a class from 36 on, and one from 48 on
-bass_low : (root : ℕ) (bass : Bass) → root ≤ 11 → is_bass bass ≡ true → (key : ℕ) → Memᴰ key (bass_keys root bass) → key ≤ 59
-bass_low root Bass.None h e key m = let is = Memᴰ-eq_of_singleton m in omega arith
-bass_low root (Bass.Class bass) h e key m =
+bass_low : (root : ℕ) (bass : Option ℕ) → root ≤ 11 → is_bass bass ≡ true → (key : ℕ) → Memᴰ key (bass_keys root bass) → key ≤ 59
+bass_low root None h e key m = let is = Memᴰ-eq_of_singleton m in omega arith
+bass_low root (Some bass) h e key m =
     let low = leb→le bass 11 (said (leb bass 11) e) in
     ⊎_elim (λ (is : key ≡ bass + 36). omega arith) (λ more. let is = Memᴰ-eq_of_singleton more in omega arith) (Memᴰ-cases_cons m)
 
@@ -120,7 +118,7 @@ module _ (chord : Chord) (classes intervals : List ℕ) where
       × InOrder (λ (key later : ℕ). later ≤ key) tensions
   tensions_descend = (tensions_below lowest lead left_pool, tensions_turns lowest lead left_pool, tensions_fall lowest lead left_pool)
 
-  module _ (pairs : pairs_checked tones ≡ Passed) where
+  module _ (pairs : pairs_checked tones ≡ (Ok tt)) where
     abbrev Heard : ℕ → Type 0
     Heard key = Sounds lowest chord.highest tones key
 

@@ -1,13 +1,10 @@
 -- The voicing of a chord: paper 01, "Voicing (001)" and "Numbers given back", and paper 02, Q-8.
-use Rattle.std.specs.Prelude.{cond, ◌&&◌, List, [], ◌∷◌, ◌++◌, ℕ, suc, ◌+◌, leb}
+use Rattle.answer.specs.declared.refusal.Refusal.{Refusal}
+use Rattle.std.specs.Prelude.{cond, ◌&&◌, List, [], ◌∷◌, ◌++◌, ℕ, suc, ◌+◌, leb, Option, Some, None, Result, Ok, Err, ⊤}
 use Rattle.answer.specs.Replies.{Reply, text, unless_refused}
-use Rattle.answer.specs.declared.refusal.Checked.{Checked}
-use Rattle.answer.specs.declared.refusal.Checked.TheVariants.{Passed, Refused}
 use Rattle.answer.specs.declared.refusal.Refusal.TheVariants.{BadClass, BadRange}
 use Rattle.intervals.specs.Bass.{is_bass}
-use Rattle.intervals.specs.declared.bass.Bass.{Bass}
 use Rattle.pool.specs.declared.pool.Tone.{Tone}
-use Rattle.voicings.specs.declared.voicing.Lead.{Lead}
 use Rattle.voicings.specs.declared.voicing.Chord.{Chord}
 use Rattle.pool.specs.Pool.{tones_of}
 use Rattle.pool.specs.Order.{sorted}
@@ -17,14 +14,14 @@ use Rattle.voicings.specs.Guides.{guide_keys, tension_keys}
 use Rattle.voicings.specs.Range.{is_range}
 
 -- the lead asked for: "a missing lead now means the highest key"
-abbrev pub wanted_of : ℕ → Lead → ℕ
-wanted_of highest Lead.None = highest
-wanted_of highest (Lead.Key key) = key
+abbrev pub wanted_of : ℕ → Option ℕ → ℕ
+wanted_of highest None = highest
+wanted_of highest (Some key) = key
 
 -- "bass + 36 and root + 48, or with no bass root + 36"
-abbrev pub bass_keys : ℕ → Bass → List ℕ
-bass_keys root Bass.None = (root + 36) ∷ []
-bass_keys root (Bass.Class bass) = (bass + 36) ∷ (root + 48) ∷ []
+abbrev pub bass_keys : ℕ → Option ℕ → List ℕ
+bass_keys root None = (root + 36) ∷ []
+bass_keys root (Some bass) = (bass + 36) ∷ (root + 48) ∷ []
 
 -- guides and tensions of the pool that a lead has left, and the lead
 unfoldable pub above_bass : ℕ → ℕ → ℕ → List Tone → List ℕ
@@ -42,9 +39,9 @@ voicing_of chord classes intervals =
     ++ above chord.lowest (suc chord.highest) (wanted_of chord.highest chord.lead) (sorted (tones_of classes intervals))
 
 -- refusals 2 and 16, "after 2 and before 3"
-abbrev pub chord_checked : Chord → Checked
+abbrev pub chord_checked : Chord → Result ⊤ Refusal
 chord_checked chord =
-    cond (leb chord.root 11 && is_bass chord.bass) (cond (is_range chord.lowest chord.highest) Passed (Refused BadRange)) (Refused BadClass)
+    cond (leb chord.root 11 && is_bass chord.bass) (cond (is_range chord.lowest chord.highest) (Ok tt) (Err BadRange)) (Err BadClass)
 
 -- what a call has to give: the refusals of the record, those of the pairs, or the voicing
 unfoldable pub voicing_reply : Chord → List ℕ → List ℕ → Reply

@@ -1,8 +1,8 @@
 -- Numbers of a host's width.
-use Rattle.std.specs.Prelude.{◌^◌, ◌<◌}
-use Rattle.answer.specs.declared.output.Output.{Output}
+use Rattle.answer.specs.declared.refusal.Refusal.{Refusal}
+use Rattle.std.specs.Prelude.{◌^◌, ◌<◌, Result, Ok, Err, ℕ}
 
 -- an answer's count of bytes is one that a host's 64 bits hold
-abbrev pub Fits : Output → Type 0
-Fits (Output.Written n) = n < 2 ^ 63
-Fits (Output.Refused why) = Unit {0}
+abbrev pub Fits : Result ℕ Refusal → Type 0
+Fits (Ok n) = n < 2 ^ 63
+Fits (Err why) = Unit {0}

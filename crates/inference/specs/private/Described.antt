@@ -1,10 +1,9 @@
 -- A suffix as it is written off a descriptor.
-use Rattle.std.specs.Prelude.{Bool, cond, not, ◌||◌, List, [], ◌++◌, ℕ, ◌^◌, ◌<◌, eqb}
+use Rattle.intervals.specs.declared.interval.Interval.{Interval}
+use Rattle.std.specs.Prelude.{Bool, cond, not, ◌||◌, List, [], ◌++◌, ℕ, ◌^◌, ◌<◌, eqb, Option, Some, None}
 use Rattle.std.specs.Int.Bits.{bit_and, bit_xor}
 use Rattle.answer.specs.Words.{bytes, packed}
 use Rattle.intervals.specs.Intervals.{notation_of}
-use Rattle.intervals.specs.declared.interval.MaybeInterval.{MaybeInterval}
-use Rattle.intervals.specs.declared.interval.MaybeInterval.TheVariants.{Is, Nothing}
 use Rattle.rules.specs.Classes.{intervals_in}
 use Rattle.rules.specs.Heading.{wording, modified}
 use Rattle.rules.specs.Suffix.{worded}
@@ -12,9 +11,9 @@ use Rattle.descriptors.specs.declared.descriptor.Descriptor.{Descriptor}
 use Rattle.inference.specs.private.Prefixes.{prefix_text, add_where}
 
 -- a modifier where a quality shows one, or its word without one
-abbrev pub modifier_word : Bool → ℕ → MaybeInterval → ℕ
-modifier_word shows without (Is i) = cond shows (packed (notation_of i)) 0
-modifier_word shows without Nothing = without
+abbrev pub modifier_word : Bool → ℕ → Option Interval → ℕ
+modifier_word shows without (Some i) = cond shows (packed (notation_of i)) 0
+modifier_word shows without None = without
 
 -- what stands before the parentheses
 abbrev pub head_of : Descriptor → List ℕ

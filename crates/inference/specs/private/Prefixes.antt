@@ -1,7 +1,7 @@
 -- What stands before the first of some parts, and a part of the parentheses.
-use Rattle.std.specs.Prelude.{Bool, cond, List, [], ◌++◌, ℕ}
+use Rattle.intervals.specs.declared.interval.Interval.{Interval}
+use Rattle.std.specs.Prelude.{Bool, cond, List, [], ◌++◌, ℕ, Option}
 use Rattle.answer.specs.Words.{bytes}
-use Rattle.intervals.specs.declared.interval.MaybeInterval.{MaybeInterval}
 use Rattle.rules.specs.Heading.{or_else}
 use Rattle.inference.specs.declared.wording.Prefix.{Prefix}
 use Rattle.inference.specs.declared.wording.Prefix.TheVariants.{None, Add, Omit}
@@ -17,5 +17,5 @@ abbrev pub add_where : Bool → Prefix
 add_where first = cond first Add None
 
 -- a part of the parentheses with what stands before it, the first or a later one
-abbrev pub part : Bool → Prefix → MaybeInterval → List ℕ
+abbrev pub part : Bool → Prefix → Option Interval → List ℕ
 part first prefix interval = cond first (bytes "(") (bytes ",") ++ prefix_text prefix ++ or_else "" interval

@@ -1,10 +1,9 @@
 -- Degrees as the code has them.
-use Rattle.std.specs.Prelude.{◌≡◌, cond, List, [], ◌++◌, ℕ, ◌≤◌}
+use Rattle.intervals.specs.declared.interval.Interval.{Interval}
+use Rattle.std.specs.Prelude.{◌≡◌, cond, List, [], ◌++◌, ℕ, ◌≤◌, Option, Some, None}
 use Rattle.answer.specs.Words.{bytes, packed, long, text_of}
 use Rattle.intervals.specs.Sets.{has}
 use Rattle.intervals.specs.declared.interval.Interval.TheVariants.{Unison}
-use Rattle.intervals.specs.declared.interval.MaybeInterval.{MaybeInterval}
-use Rattle.intervals.specs.declared.interval.MaybeInterval.TheVariants.{Is, Nothing}
 use Rattle.harmonies.specs.Degrees.{Degree}
 use Rattle.harmonies.specs.Kinds.{add_of}
 use Rattle.harmonies.specs.Harmony.{decimal, integer}
@@ -19,9 +18,9 @@ degree_text value alter end =
     part_text DegreeValue ++ text_of value ++ part_text DegreeAlter ++ text_of alter ++ part_text DegreeType ++ part_text end
 
 -- the add for what a number names; no loop asks for one of no interval
-abbrev pub numbered_add : MaybeInterval → Degree
-numbered_add (Is i) = add_of i
-numbered_add Nothing = add_of Unison
+abbrev pub numbered_add : Option Interval → Degree
+numbered_add (Some i) = add_of i
+numbered_add None = add_of Unison
 
 -- a row has the words of a degree's value and alter
 pub record IsRow (d : Degree) (row : Row) : Type 0 where

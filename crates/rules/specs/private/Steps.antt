@@ -1,11 +1,10 @@
 -- What the code computes of a rooted set, step by step, on numbers with a bit for each interval or degree. Contracts of private functions cite
 -- it; proofs/Tested.antt has the one test by which each step is what the rules say.
-use Rattle.std.specs.Prelude.{Bool, cond, ℕ, ◌-◌, ◌*◌, ◌/◌, ◌%◌, eqb, leb}
+use Rattle.intervals.specs.declared.interval.Interval.{Interval}
+use Rattle.std.specs.Prelude.{Bool, cond, ℕ, ◌-◌, ◌*◌, ◌/◌, ◌%◌, eqb, leb, Option, Some, None}
 use Rattle.std.specs.Int.Bits.{bit_and, bit_or}
 use Rattle.answer.proofs.Chosen.{test}
 use Rattle.intervals.specs.declared.interval.Interval.TheVariants.{Ninth, Eleventh, Thirteenth}
-use Rattle.intervals.specs.declared.interval.MaybeInterval.{MaybeInterval}
-use Rattle.intervals.specs.declared.interval.MaybeInterval.TheVariants.{Is, Nothing}
 
 -- the set with class 4 put in where it has neither class 3 nor class 4
 abbrev pub with_third_from : ℕ → ℕ
@@ -31,11 +30,11 @@ unstacked_from named own stack =
     bit_or (bit_or (nine % 2 * 131072) (eleven % 2 * 524288)) (thirteen % 2 * 4194304)
 
 -- the last extension that is stacked
-abbrev pub modifier_from : Bool → ℕ → ℕ → MaybeInterval
+abbrev pub modifier_from : Bool → ℕ → ℕ → Option Interval
 modifier_from dim extensions unstacked =
     let stacked = bit_and extensions (4294967295 - bit_or unstacked 16384) in
-    cond dim Nothing
-    (cond (leb 4194304 stacked) (Is Thirteenth) (cond (leb 524288 stacked) (Is Eleventh) (cond (leb 131072 stacked) (Is Ninth) Nothing)))
+    cond dim None
+    (cond (leb 4194304 stacked) (Some Thirteenth) (cond (leb 524288 stacked) (Some Eleventh) (cond (leb 131072 stacked) (Some Ninth) None)))
 
 -- the adds
 abbrev pub adds_from : Bool → ℕ → ℕ → ℕ → ℕ

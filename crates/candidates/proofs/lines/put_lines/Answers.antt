@@ -1,8 +1,7 @@
 -- `candidates::lines::put_lines` meets its contract. The loop's invariant: the lines of the classes before `i` are written.
-use Rattle.answer.proofs.Kit.{◌≡◌, refl, ap, ◌∙◌, true, List, [], map, flat_map, ℕ, ◌+◌, ◌-◌, ◌<◌, ◌≤◌, arith, length, drop-length}
+use Rattle.answer.proofs.Kit.{◌≡◌, refl, ap, ◌∙◌, true, List, [], map, flat_map, ℕ, ◌+◌, ◌-◌, ◌<◌, ◌≤◌, arith, length, drop-length, Some, None}
 use borrow.Rule.Slice.PartMut.{put_mid}
 use Rattle.intervals.specs.Sets.{has}
-use Rattle.intervals.specs.declared.bass.Bass.TheVariants.{None, Class}
 use Rattle.answer.specs.Words.{digits, long, text_of}
 use Rattle.answer.specs.Written.{Writes}
 use Rattle.answer.proofs.Parts.{part_puts, part_long}
@@ -49,13 +48,13 @@ wrote_first c =
 -- one line more, in the part of the buffer that is still free
 wrote_next : (c : After-put_line-used-in-loop-i)
     → c.loop-i.used + 80 ≤ length c.loop-i.out
-    → Puts c.loop-i.out c.loop-i.used (line (table_of c.args.names) (chord c.args.set (Class c.wide-root.result) c.wide-class.result))
+    → Puts c.loop-i.out c.loop-i.used (line (table_of c.args.names) (chord c.args.set (Some c.wide-root.result) c.wide-class.result))
     (c.loop-i.used + c.put_line-used-in-loop-i.result) (put_mid c.loop-i.used (length c.loop-i.out - c.loop-i.used) c.loop-i.out c.put_line-used-in-loop-i.new.out)
 wrote_next c room =
     let name = name_text (table_of c.args.names) (table_brief c.args.names) c.wide-class.result _ c.class_name-name.ensures in
     let behind = c.over_name-behind.ensures.0 ∙ ap over (name_text (table_of c.args.names) (table_brief c.args.names) c.wide-root.result _ c.class_name-first.ensures) in
     part_puts c.loop-i.out c.loop-i.used (length c.loop-i.out - c.loop-i.used) (omega arith)
-    (same_text (line_of_pieces (table_of c.args.names) c.args.set (Class c.wide-root.result) c.wide-class.result _ _ name behind) c.put_line-used-in-loop-i.ensures) c.put_line-used-in-loop-i.auto.out
+    (same_text (line_of_pieces (table_of c.args.names) c.args.set (Some c.wide-root.result) c.wide-class.result _ _ name behind) c.put_line-used-in-loop-i.ensures) c.put_line-used-in-loop-i.auto.out
 
 -- which has at most 33 bytes
 short_next : (c : After-put_line-used-in-loop-i)
@@ -63,8 +62,8 @@ short_next : (c : After-put_line-used-in-loop-i)
     → (c.wide-class.result < 12) × (has c.args.set c.wide-class.result ≡ true)
     → c.put_line-used-in-loop-i.result ≤ 33
 short_next c room is =
-    let line_of = chord c.args.set (Class c.wide-root.result) c.wide-class.result in
-    let rooted = chord_rooted c.args.set (Class c.wide-root.result) c.wide-class.result is.0 is.1 in
+    let line_of = chord c.args.set (Some c.wide-root.result) c.wide-class.result in
+    let rooted = chord_rooted c.args.set (Some c.wide-root.result) c.wide-class.result is.0 is.1 in
     omega (arith, (wrote_next c room).wrote.place, line_length (table_of c.args.names) (table_brief c.args.names) line_of rooted)
 
 pub returns-then-order-eq0 : goal.returns-then-order-eq0
@@ -112,7 +111,7 @@ loop-i-preserved c =
     let order = c.args.order.now in
     let p = goal.at.loop-i-preserved c in
     let room = roomy p.In-loop-i in
-    let next = one_line (table_of c.args.names) c.args.set order (Class c.wide-root.result) c.loop-i.i c.wide-class.result c.wide-class.ensures (omega arith) in (
+    let next = one_line (table_of c.args.names) c.args.set order (Some c.wide-root.result) c.loop-i.i c.wide-class.result c.wide-class.ensures (omega arith) in (
       so_far_next c.loop-i.invariant.0 _ _ next (wrote_next p.After-put_line-used-in-loop-i room),
       omega (arith, short_next p.After-put_line-used-in-loop-i room (next_is p.After-wide-class), c.loop-i.invariant.1),
       omega arith,
@@ -123,5 +122,5 @@ unfolding lines flat_map
 returns c = let h = c.loop-i in
     let order = c.args.order.now in
     let end : h.i ≡ length order = omega (arith, h.invariant.2) in
-    let none : left c.args.names c.args.set c.wide-root.result order h.i ≡ [] = ap (left c.args.names c.args.set c.wide-root.result order) end ∙ ap (λ (l : List ℕ). lines (table_of c.args.names) (map (chord c.args.set (Class c.wide-root.result)) l)) (drop-length order) in
+    let none : left c.args.names c.args.set c.wide-root.result order h.i ≡ [] = ap (left c.args.names c.args.set c.wide-root.result order) end ∙ ap (λ (l : List ℕ). lines (table_of c.args.names) (map (chord c.args.set (Some c.wide-root.result)) l)) (drop-length order) in
     same_text (all_lines (table_of c.args.names) c.args.set order c.wide-root.result c.wide-root.ensures (omega arith)) (also (wrote_first (goal.at.returns c).After-put_line-used) (so_far_all h.invariant.0 none).wrote)

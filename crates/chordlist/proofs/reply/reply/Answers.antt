@@ -20,8 +20,8 @@ module _ (line : List ℕ) where
   unfolding line_text held_text
   held h codes e = rw (le-leb _ _ h, e)
 
-pub returns-in-Read : goal.returns-in-Read
-returns-in-Read c = rw (held c.args.line.now c.if-line-le-LONGEST.true _ c.in-Read.ensures.1) c.reply_codes.ensures
+pub returns-in-Some : goal.returns-in-Some
+returns-in-Some c = rw (held c.args.line.now c.if-line-le-LONGEST.true _ c.in-Some.ensures.1) c.reply_codes.ensures
 
 -- a line that can't be read, or is too long
 pub returns : goal.returns

@@ -1,9 +1,8 @@
 -- `chordlist::reply::reply_codes` meets its contract: there is room for all candidates and the stop, so that none but a code above 127 is refused.
-use Rattle.answer.proofs.Kit.{◌≡◌, refl, sym, subst, ◌∙◌, List, [], ◌∷◌, ◌++◌, append_assoc, ℕ, ◌+◌, ◌≤◌, arith, length, drop, set, length-set}
+use Rattle.answer.specs.declared.refusal.Refusal.{Refusal}
+use Rattle.answer.proofs.Kit.{◌≡◌, refl, sym, subst, ◌∙◌, List, [], ◌∷◌, ◌++◌, append_assoc, ℕ, ◌+◌, ◌≤◌, arith, length, drop, set, length-set, Result, Ok, Err}
 use Rattle.answer.specs.Words.{bytes}
 use Rattle.answer.specs.Replies.{Reply, refuse, text, output_of, room_after, Answered, AtMost}
-use Rattle.answer.specs.declared.output.Output.{Output}
-use Rattle.answer.specs.declared.output.Output.TheVariants.{Written, Refused}
 use Rattle.answer.proofs.Rooms.{written}
 use Rattle.names.specs.Names.{flats}
 use Rattle.names.proofs.Named.{flats_brief}
@@ -13,7 +12,7 @@ use Rattle.chordlist.specs.Replies.{bad_text, reply_text, codes_text}
 use Rattle.chordlist.specs.private.Calls.{Printed}
 use Rattle.chordlist.proofs.Printing.{two_more}
 use Rattle.chordlist.proofs.reply.reply_codes.Goals as goal
-use Rattle.chordlist.proofs.reply.reply_codes.Goals.{In-Written}
+use Rattle.chordlist.proofs.reply.reply_codes.Goals.{In-Ok}
 
 -- a text stands in front, as the reply says
 pub record Stands (reply : Reply) (room : List ℕ) (n : ℕ) (left : List ℕ) : Type 0 where
@@ -24,16 +23,16 @@ pub record Stands (reply : Reply) (room : List ℕ) (n : ℕ) (left : List ℕ) 
   pub stands : left ≡ listed ++ drop (length listed) room
 
 -- what a call came to that had room for any text
-abbrev Came : Reply → List ℕ → Output → List ℕ → Type 0
-Came reply room (Written n) left = Stands reply room n left
-Came reply room (Refused why) left = (reply_text reply ≡ bad_text) × (left ≡ room)
+abbrev Came : Reply → List ℕ → Result ℕ Refusal → List ℕ → Type 0
+Came reply room (Ok n) left = Stands reply room n left
+Came reply room (Err why) left = (reply_text reply ≡ bad_text) × (left ≡ room)
 
-came : (reply : Reply) (room left : List ℕ) (r : Output) → AtMost 840 reply → 842 ≤ length room → Answered reply room r left → Came reply room r left
+came : (reply : Reply) (room left : List ℕ) (r : Result ℕ Refusal) → AtMost 840 reply → 842 ≤ length room → Answered reply room r left → Came reply room r left
 unfolding output_of room_after reply_text
-came (refuse why) room left r most h a = subst (λ (x : Output). Came (refuse why) room x left) (sym a.0) (refl, a.1)
+came (refuse why) room left r most h a = subst (λ (x : Result ℕ Refusal). Came (refuse why) room x left) (sym a.0) (refl, a.1)
 came (text t) room left r most h a =
     let w = written t room (omega arith) in
-    subst (λ (x : Output). Came (text t) room x left) (w.0 ∙ sym a.0) (record { listed = t; is = refl; most = most; count = refl; stands = a.1 ∙ sym w.1 })
+    subst (λ (x : Result ℕ Refusal). Came (text t) room x left) (w.0 ∙ sym a.0) (record { listed = t; is = refl; most = most; count = refl; stands = a.1 ∙ sym w.1 })
 
 -- the stop, behind what stands
 stopped : (reply : Reply) (room left : List ℕ) (n : ℕ) → 842 ≤ length room → Stands reply room n left
@@ -46,34 +45,34 @@ stopped reply room left n h s =
     (two_more s.listed room 46 10 (omega (arith, s.most))))
 
 -- the candidates that were written, and the stop's place behind them
-module _ (c : In-Written) where
-  listing : Stands (strict_reply flats c.args.codes.now) c.args.out.now c.in-Written.count c.candidates_strict.new.out
+module _ (c : In-Ok) where
+  listing : Stands (strict_reply flats c.args.codes.now) c.args.out.now c.in-Ok.count c.candidates_strict.new.out
   listing =
-      came (strict_reply flats c.args.codes.now) c.args.out.now c.candidates_strict.new.out (Written c.in-Written.count) (strict_room _ flats flats_brief)
-      c.requires c.in-Written.ensures
+      came (strict_reply flats c.args.codes.now) c.args.out.now c.candidates_strict.new.out (Ok c.in-Ok.count) (strict_room _ flats flats_brief)
+      c.requires c.in-Ok.ensures
 
-  stop_place : (c.in-Written.count ≤ 840) × (c.in-Written.count + 2 ≤ length c.candidates_strict.new.out)
+  stop_place : (c.in-Ok.count ≤ 840) × (c.in-Ok.count + 2 ≤ length c.candidates_strict.new.out)
   stop_place = let l = listing in (omega (arith, l.most, l.count), omega (arith, l.most, l.count, c.requires, c.candidates_strict.auto.out))
 
 pub bounds-out-count : goal.bounds-out-count
-bounds-out-count c = omega (arith, (stop_place (goal.at.bounds-out-count c).In-Written).1)
+bounds-out-count c = omega (arith, (stop_place (goal.at.bounds-out-count c).In-Ok).1)
 
 pub overflow_add-out : goal.overflow_add-out
-overflow_add-out c = omega (arith, (stop_place (goal.at.overflow_add-out c).In-Written).0)
+overflow_add-out c = omega (arith, (stop_place (goal.at.overflow_add-out c).In-Ok).0)
 
-pub bounds-out-count-in-Written : goal.bounds-out-count-in-Written
-bounds-out-count-in-Written c = simp length-set (omega (arith, (stop_place (goal.at.bounds-out-count-in-Written c).In-Written).1))
+pub bounds-out-count-in-Ok : goal.bounds-out-count-in-Ok
+bounds-out-count-in-Ok c = simp length-set (omega (arith, (stop_place (goal.at.bounds-out-count-in-Ok c).In-Ok).1))
 
 pub overflow_add-result : goal.overflow_add-result
-overflow_add-result c = omega (arith, (stop_place (goal.at.overflow_add-result c).In-Written).0)
+overflow_add-result c = omega (arith, (stop_place (goal.at.overflow_add-result c).In-Ok).0)
 
-pub returns-in-Written : goal.returns-in-Written
+pub returns-in-Ok : goal.returns-in-Ok
 unfolding codes_text
-returns-in-Written c = stopped (strict_reply flats c.args.codes.now) _ _ _ c.requires (listing (goal.at.returns-in-Written c).In-Written)
+returns-in-Ok c = stopped (strict_reply flats c.args.codes.now) _ _ _ c.requires (listing (goal.at.returns-in-Ok c).In-Ok)
 
-pub returns-in-Refused : goal.returns-in-Refused
+pub returns-in-Err : goal.returns-in-Err
 unfolding codes_text
-returns-in-Refused c =
+returns-in-Err c =
     let reply = strict_reply flats c.args.codes.now in
-    let e = came reply c.args.out.now c.candidates_strict.new.out (Refused c.in-Refused.field-0) (strict_room _ flats flats_brief) c.requires c.in-Refused.ensures in
+    let e = came reply c.args.out.now c.candidates_strict.new.out (Err c.in-Err.field-0) (strict_room _ flats flats_brief) c.requires c.in-Err.ensures in
     subst (λ (l : List ℕ). Printed (reply_text reply) l c.reply_bad.result c.reply_bad.new.out) e.1 (rw e.0 c.reply_bad.ensures)

@@ -1,11 +1,10 @@
 -- `descriptors::descriptor::describe` meets its contract: at a rooted set each step is what the rules say.
-use Rattle.answer.proofs.Kit.{◌≡◌, ap, ◌∙◌, true, ℕ, mod-eq_of_lt, arith}
+use Rattle.answer.proofs.Kit.{◌≡◌, ap, ◌∙◌, true, ℕ, mod-eq_of_lt, arith, Ok}
 use Rattle.answer.proofs.Tests.{refused, admitted}
 use Rattle.intervals.specs.Sets.{is_rooted}
 use Rattle.intervals.specs.Intervals.{set_of}
 use Rattle.intervals.proofs.Rooted.{rooted_small}
 use Rattle.rules.specs.Classes.{intervals_of}
-use Rattle.descriptors.specs.declared.descriptor.DescriptorAnswer.TheVariants.{Is}
 use Rattle.descriptors.proofs.Described.{described}
 use Rattle.descriptors.proofs.Replied.{not_rooted, rooted}
 use Rattle.descriptors.proofs.descriptor.describe.Goals as goal
@@ -31,7 +30,7 @@ pub shown_quality-quality-requires : goal.shown_quality-quality-requires
 shown_quality-quality-requires c = is (goal.at.shown_quality-quality-requires c).Else-not-is_rooted
 
 pub returns : goal.returns
-returns c = ap Is
+returns c = ap Ok
     (described (set (goal.at.returns c).Else-not-is_rooted) (is (goal.at.returns c).Else-not-is_rooted) _ _ _ _ _ _ _ _ _ _ _ (intervals_told (goal.at.returns c).After-intervals-found) c.shown_quality-quality.ensures
     c.alteration_mask.ensures c.extension_mask.ensures c.within-extensions.ensures c.split_extensions-split.ensures
     c.last_add.ensures c.omitted_third.ensures c.omitted_fifth.ensures)

@@ -8,10 +8,10 @@ use Rattle.host.proofs.Wide.{held_pos, fits_pos}
 use Rattle.hemotusap.proofs.outputs.written.Goals as goal
 
 pub overflow_cast-result : goal.overflow_cast-result
-overflow_cast-result c = fits_pos _ (subst Fits c.in-Written.is c.requires)
+overflow_cast-result c = fits_pos _ (subst Fits c.in-Ok.is c.requires)
 
-pub returns-in-Written : goal.returns-in-Written
-returns-in-Written c = held_pos _ (subst Fits c.in-Written.is c.requires) ∙ ap output_number (sym c.in-Written.is)
+pub returns-in-Ok : goal.returns-in-Ok
+returns-in-Ok c = held_pos _ (subst Fits c.in-Ok.is c.requires) ∙ ap output_number (sym c.in-Ok.is)
 
-pub returns-in-Refused : goal.returns-in-Refused
-returns-in-Refused c = to_z-of_z {w = w64} (search rules) ∙ c.refused.ensures ∙ ap output_number (sym c.in-Refused.is)
+pub returns-in-Err : goal.returns-in-Err
+returns-in-Err c = to_z-of_z {w = w64} (search rules) ∙ c.refused.ensures ∙ ap output_number (sym c.in-Err.is)

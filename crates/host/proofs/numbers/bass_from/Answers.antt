@@ -1,11 +1,10 @@
 -- `host::numbers::bass_from` meets its contract: by whether it is 255.
-use Rattle.answer.proofs.Kit.{◌≡◌, sym, ap, Bool, true, false, cond, ℕ, eqb, eq-eqb, ne_eqb}
-use Rattle.intervals.specs.declared.bass.Bass.TheVariants.{None, Class}
+use Rattle.answer.proofs.Kit.{◌≡◌, sym, ap, Bool, true, false, cond, ℕ, eqb, eq-eqb, ne_eqb, Some, None}
 use Rattle.host.specs.Numbers.{bass_from}
 use Rattle.host.proofs.numbers.bass_from.Goals as goal
 
-by_test : (bass : ℕ) (b : Bool) → eqb bass 255 ≡ b → cond b None (Class bass) ≡ bass_from bass
-by_test bass b e = ap (λ (x : Bool). cond x None (Class bass)) (sym e)
+by_test : (bass : ℕ) (b : Bool) → eqb bass 255 ≡ b → cond b None (Some bass) ≡ bass_from bass
+by_test bass b e = ap (λ (x : Bool). cond x None (Some bass)) (sym e)
 
 pub returns-then-bass-eq-NO_BASS : goal.returns-then-bass-eq-NO_BASS
 returns-then-bass-eq-NO_BASS c = by_test c.args.bass true (eq-eqb _ _ c.if-bass-eq-NO_BASS.true)

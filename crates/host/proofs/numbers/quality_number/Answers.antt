@@ -6,8 +6,8 @@ use Rattle.host.specs.Numbers.{quality_number}
 use Rattle.host.proofs.Wide.{held_pos}
 use Rattle.host.proofs.numbers.quality_number.Goals as goal
 
-pub returns-in-Is : goal.returns-in-Is
-returns-in-Is c = held_pos _ (search rules) ∙ ap pos c.number.ensures ∙ ap quality_number (sym c.in-Is.is)
+pub returns-in-Ok : goal.returns-in-Ok
+returns-in-Ok c = held_pos _ (search rules) ∙ ap pos c.number.ensures ∙ ap quality_number (sym c.in-Ok.is)
 
-pub returns-in-Refused : goal.returns-in-Refused
-returns-in-Refused c = to_z-of_z {w = w64} (search rules) ∙ c.refused.ensures ∙ ap quality_number (sym c.in-Refused.is)
+pub returns-in-Err : goal.returns-in-Err
+returns-in-Err c = to_z-of_z {w = w64} (search rules) ∙ c.refused.ensures ∙ ap quality_number (sym c.in-Err.is)

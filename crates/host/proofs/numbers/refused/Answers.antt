@@ -31,5 +31,5 @@ returns-in-None c = to_z-of_z (fits_turned (number (goal.at.returns-in-None c).I
     ∙ its_size (goal.at.returns-in-None c).In-None
     ∙ ap minus (ap₂ size_of c.number-number.ensures c.place.ensures)
 
-pub returns-in-At : goal.returns-in-At
-returns-in-At c = to_z-of_z {w = w64} (search rules) ∙ c.minus_placed.ensures ∙ ap minus (ap₂ size_of c.number-number.ensures (sym c.in-At.is ∙ c.place.ensures))
+pub returns-in-Some : goal.returns-in-Some
+returns-in-Some c = to_z-of_z {w = w64} (search rules) ∙ c.minus_placed.ensures ∙ ap minus (ap₂ size_of c.number-number.ensures (sym c.in-Some.is ∙ c.place.ensures))

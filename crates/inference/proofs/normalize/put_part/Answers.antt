@@ -1,8 +1,8 @@
 -- `inference::normalize::put_part` meets its contract: three words in a row.
-use Rattle.answer.proofs.Kit.{ap, ◌∙◌, cond, arith, eqb, length-append}
+use Rattle.intervals.specs.declared.interval.Interval.{Interval}
+use Rattle.answer.proofs.Kit.{ap, ◌∙◌, cond, arith, eqb, length-append, Option}
 use Rattle.answer.specs.Words.{bytes, packed}
 use Rattle.intervals.specs.Intervals.{numbered}
-use Rattle.intervals.specs.declared.interval.MaybeInterval.{MaybeInterval}
 use Rattle.rules.specs.Heading.{or_else}
 use Rattle.inference.specs.private.Prefixes.{prefix_text}
 use Rattle.answer.proofs.Writing.{no_puts, then_put}
@@ -21,6 +21,6 @@ returns c = let a = c.args in
     c.put-after_word.ensures c.put-after_word.auto.buffer in
     let named =
     then_put worded (or_else "" (numbered a.number)) (or_nothing_short (numbered a.number)) _ _ _
-    (c.notation.ensures ∙ ap (λ (m : MaybeInterval). packed (or_else "" m)) c.from_number.ensures)
+    (c.notation.ensures ∙ ap (λ (m : Option Interval). packed (or_else "" m)) c.from_number.ensures)
     (simp length-append (omega arith)) c.put.ensures c.put.auto.buffer in
     named.wrote

@@ -12,7 +12,7 @@ use Rattle.inference.specs.private.Described.{head_of, parts_of, Small}
 use Rattle.inference.proofs.Described.{head_told, parts_told, small_told}
 use Rattle.inference.proofs.Puts.{no_room, no_set, placed}
 use Rattle.inference.proofs.normalize.put_suffix.Goals as goal
-use Rattle.inference.proofs.normalize.put_suffix.Goals.{In-Is}
+use Rattle.inference.proofs.normalize.put_suffix.Goals.{In-Ok}
 
 -- of a rooted set and its descriptor
 module _ (s : ℕ) (d : Descriptor) (told : (is_rooted s ≡ true) × (d ≡ descriptor_of s)) where
@@ -32,8 +32,8 @@ module _ (s : ℕ) (d : Descriptor) (told : (is_rooted s ≡ true) × (d ≡ des
       let short = suffix_short s told.0 in
       omega arith
 
-described : (c : In-Is) → (is_rooted c.args.set ≡ true) × (c.in-Is.descriptor ≡ descriptor_of c.args.set)
-described c = Replied.described c.args.set _ c.describe.ensures _ c.in-Is.is
+described : (c : In-Ok) → (is_rooted c.args.set ≡ true) × (c.in-Ok.descriptor ≡ descriptor_of c.args.set)
+described c = Replied.described c.args.set _ c.describe.ensures _ c.in-Ok.is
 
 pub returns-then-buffer-lt-ROOM : goal.returns-then-buffer-lt-ROOM
 returns-then-buffer-lt-ROOM c = no_room _ _ _ (let h = c.if-buffer-lt-ROOM.true in omega arith)
@@ -42,10 +42,10 @@ pub returns-then-buffer-at : goal.returns-then-buffer-at
 returns-then-buffer-at c = no_room _ _ _ (let h = c.if-buffer-at.true in let k = c.if-buffer-lt-ROOM.false in omega arith)
 
 pub put_described-requires : goal.put_described-requires
-put_described-requires c = (is_small _ _ (described (goal.at.put_described-requires c).In-Is), room _ _ (described (goal.at.put_described-requires c).In-Is) _ _ (let h = c.if-buffer-at.false in let g = c.if-buffer-lt-ROOM.false in omega arith))
+put_described-requires c = (is_small _ _ (described (goal.at.put_described-requires c).In-Ok), room _ _ (described (goal.at.put_described-requires c).In-Ok) _ _ (let h = c.if-buffer-at.false in let g = c.if-buffer-lt-ROOM.false in omega arith))
 
-pub returns-in-Is : goal.returns-in-Is
-returns-in-Is c = placed _ _ _ (described (goal.at.returns-in-Is c).In-Is).0 (let h = c.if-buffer-at.false in let g = c.if-buffer-lt-ROOM.false in omega arith) _ _ (same_text (text _ _ (described (goal.at.returns-in-Is c).In-Is)) c.put_described.ensures)
+pub returns-in-Ok : goal.returns-in-Ok
+returns-in-Ok c = placed _ _ _ (described (goal.at.returns-in-Ok c).In-Ok).0 (let h = c.if-buffer-at.false in let g = c.if-buffer-lt-ROOM.false in omega arith) _ _ (same_text (text _ _ (described (goal.at.returns-in-Ok c).In-Ok)) c.put_described.ensures)
 
-pub returns-in-Refused : goal.returns-in-Refused
-returns-in-Refused c = no_set _ _ _ (Replied.refused _ _ c.describe.ensures _ c.in-Refused.is)
+pub returns-in-Err : goal.returns-in-Err
+returns-in-Err c = no_set _ _ _ (Replied.refused _ _ c.describe.ensures _ c.in-Err.is)

@@ -2,10 +2,10 @@
 use Rattle.answer.specs.Words.{bytes, low, packed}
 use Rattle.inference.proofs.wording.notation.Goals as goal
 
-pub returns-in-Is : goal.returns-in-Is
+pub returns-in-Some : goal.returns-in-Some
 unfolding bytes low packed
-returns-in-Is c = rw c.in-Is.is c.to_chord_notation.ensures
+returns-in-Some c = rw c.in-Some.is c.to_chord_notation.ensures
 
-pub returns-in-Nothing : goal.returns-in-Nothing
+pub returns-in-None : goal.returns-in-None
 unfolding bytes low packed
-returns-in-Nothing c = rw c.in-Nothing.is
+returns-in-None c = rw c.in-None.is

@@ -3,5 +3,5 @@ use Rattle.answer.proofs.Kit.{sym, ap}
 use Rattle.intervals.specs.Bass.{is_bass}
 use Rattle.intervals.proofs.bass.is_bass.Goals as goal
 
-pub returns-in-Class : goal.returns-in-Class
-returns-in-Class c = sym (ap is_bass c.in-Class.is)
+pub returns-in-Some : goal.returns-in-Some
+returns-in-Some c = sym (ap is_bass c.in-Some.is)

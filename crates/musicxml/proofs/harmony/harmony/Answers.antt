@@ -13,8 +13,8 @@ use Rattle.musicxml.proofs.harmony.harmony.Goals as goal
 use Rattle.musicxml.proofs.harmony.harmony.Goals.{After-is_bass, Else-not-root-is_bass}
 
 -- the set is rooted, of the quality that is shown
-told : (c : After-is_bass) → (is_rooted c.args.set ≡ true) × (c.in-Is.quality ≡ suffix_quality c.args.set)
-told c = shown_told c.args.set _ c.shown.ensures _ c.in-Is.is
+told : (c : After-is_bass) → (is_rooted c.args.set ≡ true) × (c.in-Ok.quality ≡ suffix_quality c.args.set)
+told c = shown_told c.args.set _ c.shown.ensures _ c.in-Ok.is
 
 tested : (c : After-is_bass) → leb c.args.root 11 && c.is_bass.result ≡ leb c.args.root 11 && is_bass c.args.bass
 tested c = ap (λ (b : Bool). leb c.args.root 11 && b) c.is_bass.ensures
@@ -52,5 +52,5 @@ returns-else-not-root-is_bass c =
     let reply = ap text c.put_harmony-end.ensures.added ∙ sym (element c.args.root c.args.bass c.args.set (told p.After-is_bass).0 (good p.Else-not-root-is_bass)) in
     subst (λ (x : Reply). Answered x c.args.out.now c.give.result c.give.new.out) reply c.give.ensures
 
-pub returns-in-Refused : goal.returns-in-Refused
-returns-in-Refused c = refused_by _ _ _ (not_rooted _ _ _ (shown_refused _ _ c.shown.ensures _ c.in-Refused.is))
+pub returns-in-Err : goal.returns-in-Err
+returns-in-Err c = refused_by _ _ _ (not_rooted _ _ _ (shown_refused _ _ c.shown.ensures _ c.in-Err.is))

@@ -1,8 +1,7 @@
 -- `musicxml::harmony::put_harmony` meets its contract: eight texts in a row.
-use Rattle.answer.proofs.Kit.{◌≡◌, sym, ap, subst, ◌∙◌, List, ◌++◌, map, ℕ, ◌+◌, ◌≤◌, arith, mod-eq_of_lt, bit_and, length, length-append}
+use Rattle.answer.proofs.Kit.{◌≡◌, sym, ap, subst, ◌∙◌, List, ◌++◌, map, ℕ, ◌+◌, ◌≤◌, arith, mod-eq_of_lt, bit_and, length, length-append, Option}
 use Rattle.answer.proofs.Writing.{Puts, no_puts, same_text}
 use Rattle.intervals.specs.Intervals.{set_of}
-use Rattle.intervals.specs.declared.bass.Bass.{Bass}
 use Rattle.intervals.proofs.Rooted.{rooted_small}
 use Rattle.qualities.specs.declared.quality.ChordQuality.{ChordQuality}
 use Rattle.rules.specs.Classes.{intervals_in, intervals_of}
@@ -27,13 +26,13 @@ use Rattle.musicxml.proofs.harmony.put_harmony.Goals.{After-intervals, After-put
 abbrev to_kind : Kind → ℕ → List ℕ
 to_kind row root = root_text root ++ words_text row.name ++ part_text KindEnd
 
-abbrev to_adds : Kind → ℕ → ℕ → Bass → List ℕ
+abbrev to_adds : Kind → ℕ → ℕ → Option ℕ → List ℕ
 to_adds row found root bass = to_kind row root ++ written (bass_of flats bass) ++ written (degrees (map add_of (intervals_in (bit_and row.outside found))))
 
-abbrev to_third : Kind → ℕ → ℕ → Bass → ℕ → List ℕ
+abbrev to_third : Kind → ℕ → ℕ → Option ℕ → ℕ → List ℕ
 to_third row found root bass set = to_adds row found root bass ++ subtract_where set row.third 0x0100000000000033
 
-abbrev to_fifth : Kind → ℕ → ℕ → Bass → ℕ → List ℕ
+abbrev to_fifth : Kind → ℕ → ℕ → Option ℕ → ℕ → List ℕ
 to_fifth row found root bass set = to_third row found root bass set ++ subtract_where set row.fifth 0x0100000000000035
 
 -- the row of the kind, and the intervals

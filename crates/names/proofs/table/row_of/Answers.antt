@@ -1,16 +1,15 @@
 -- `names::table::row_of` meets its contract: each arm is the row at its number, and the last is past them all.
-use Rattle.answer.proofs.Kit.{◌≡◌, refl, sym, ap, List, [], map, ℕ, ◌<◌, arith, length, length-map, get_or-eq_default}
+use Rattle.answer.proofs.Kit.{◌≡◌, refl, sym, ap, List, [], map, ℕ, ◌<◌, arith, length, length-map, get_or-eq_default, Ok}
 use Rattle.answer.specs.Words.{bytes, low, packed}
 use Rattle.answer.proofs.Arms.{Nones, nones}
 use Rattle.notes.specs.NoteText.{letter_name, signs, note_name}
 use Rattle.notes.specs.declared.note.Note.{Note}
-use Rattle.notes.specs.declared.note.NoteAnswer.TheVariants.{Is}
 use Rattle.names.specs.Names.{flats, sharps, name_of, note_in}
 use Rattle.names.specs.private.Rows.{Tells}
 use Rattle.names.specs.declared.table.Row.{Row}
 use Rattle.names.proofs.table.row_of.Goals as goal
 
-row_tells : (class k : ℕ) (row : Row) → class ≡ k → note_in flats k ≡ Is (record { letter = row.0; accidental = row.1 })
+row_tells : (class k : ℕ) (row : Row) → class ≡ k → note_in flats k ≡ Ok (record { letter = row.0; accidental = row.1 })
     → row.2 ≡ packed (name_of flats k) → row.3 ≡ packed (name_of sharps k) → Tells class row
 row_tells class k row e note flat sharp = rw e (record { note = λ h. note; flat = flat; sharp = sharp })
 

@@ -1,8 +1,7 @@
 -- `pairs::checks::check_each` meets its contract. The loop's invariant: the first bad one of the pairs that are left is the first of all.
-use Rattle.answer.proofs.Kit.{◌≡◌, sym, ap, ap₂, ◌∙◌, true, false, List, ◌∷◌, ℕ, ◌+◌, ◌≤◌, ◌<◌, arith, length, get_or, slice, lt-leb, le-leb}
+use Rattle.answer.specs.declared.refusal.Refusal.{Refusal}
+use Rattle.answer.proofs.Kit.{◌≡◌, sym, ap, ap₂, ◌∙◌, true, false, List, ◌∷◌, ℕ, ◌+◌, ◌≤◌, ◌<◌, arith, length, get_or, slice, lt-leb, le-leb, Result, Err, ⊤}
 use Rattle.answer.proofs.FirstRefused.{refused_from, here, onward, from_0, at_end}
-use Rattle.answer.specs.declared.refusal.Checked.{Checked}
-use Rattle.answer.specs.declared.refusal.Checked.TheVariants.{Refused}
 use Rattle.answer.specs.declared.refusal.Refusal.TheVariants.{BadPairClass, BadPairInterval}
 use Rattle.pool.specs.declared.pool.Tone.{Tone}
 use Rattle.pool.specs.Pool.{tone_of, tones_of}
@@ -20,19 +19,19 @@ module _ (classes intervals : List ℕ) (i n : ℕ) (h : i < n) (hc : n ≤ leng
   unfolding tones_of
   turn = ap₂ tones_of (next classes i n 0 h hc) (next intervals i n 0 h hi)
 
-  abbrev left : Checked
+  abbrev left : Result ⊤ Refusal
   left = refused_from is_bad bad_pair i (pairs_from i n classes intervals)
 
-  stops : is_bad pair ≡ true → left ≡ Refused (bad_pair i pair)
+  stops : is_bad pair ≡ true → left ≡ Err (bad_pair i pair)
   stops bad = ap (refused_from is_bad bad_pair i) turn ∙ here is_bad bad_pair i pair _ bad
 
   goes_on : is_bad pair ≡ false → left ≡ refused_from is_bad bad_pair (i + 1) (pairs_from (i + 1) n classes intervals)
   goes_on good = ap (refused_from is_bad bad_pair i) turn ∙ onward is_bad bad_pair i pair _ good
 
-  bad_class : 11 < get_or classes i 0 → left ≡ Refused (BadPairClass i)
+  bad_class : 11 < get_or classes i 0 → left ≡ Err (BadPairClass i)
   bad_class above = stops (rw (lt-leb _ _ above)) ∙ rw (lt-leb _ _ above)
 
-  bad_interval : get_or classes i 0 ≤ 11 → 22 < get_or intervals i 0 → left ≡ Refused (BadPairInterval i)
+  bad_interval : get_or classes i 0 ≤ 11 → 22 < get_or intervals i 0 → left ≡ Err (BadPairInterval i)
   bad_interval class above = stops (rw (le-leb _ _ class, lt-leb _ _ above)) ∙ rw (le-leb _ _ class)
 
 pub loop-i-init : goal.loop-i-init

@@ -1,7 +1,6 @@
 -- `signatures::found::line_in` meets its contract. The loop's invariant: what is found from the byte at `i` on is what is found in the whole.
-use Rattle.answer.proofs.Kit.{◌≡◌, sym, ap, ◌∙◌, List, ◌∷◌, ℕ, suc, ◌+◌, ◌-◌, ◌<◌, add-one, arith, length, drop, get_or, drop-cons, drop-length, eq-eqb, ne_eqb}
+use Rattle.answer.proofs.Kit.{◌≡◌, sym, ap, ◌∙◌, List, ◌∷◌, ℕ, suc, ◌+◌, ◌-◌, ◌<◌, add-one, arith, length, drop, get_or, drop-cons, drop-length, eq-eqb, ne_eqb, Some}
 use Rattle.answer.specs.Lines.{line_feed}
-use Rattle.signatures.specs.declared.found.Found.TheVariants.{At}
 use Rattle.signatures.proofs.Walked.{found_from, here, next, onward, at_end, from_0}
 use Rattle.signatures.proofs.found.line_in.Goals as goal
 use Rattle.signatures.proofs.found.line_in.Goals.{then-text-i-eq-LINE_FEED+else-left-eq0, else-text-i-eq-LINE_FEED}
@@ -11,7 +10,7 @@ module _ (text : List ℕ) (start i : ℕ) (h : i < length text) where
   turn : drop i text ≡ get_or text i 0 ∷ drop (i + 1) text
   turn = rw add-one (drop-cons text i 0 h)
 
-  stops : get_or text i 0 ≡ line_feed → found_from start i (drop i text) 0 ≡ At start (i - start)
+  stops : get_or text i 0 ≡ line_feed → found_from start i (drop i text) 0 ≡ Some start (i - start)
   stops feed = ap (λ (l : List ℕ). found_from start i l 0) turn ∙ here start i _ _ (eq-eqb _ _ feed)
 
   passes : (left : ℕ) → get_or text i 0 ≡ line_feed → found_from start i (drop i text) (suc left) ≡ found_from (i + 1) (i + 1) (drop (i + 1) text) left

@@ -3,8 +3,8 @@ use Rattle.answer.proofs.Kit.{sym, ap}
 use Rattle.signatures.specs.Part.{part_at}
 use Rattle.signatures.proofs.line.part_at.Goals as goal
 
-pub returns-in-At : goal.returns-in-At
-returns-in-At c = let a = c.args in ap (part_at a.names a.end) (sym c.in-At.is)
+pub returns-in-Some : goal.returns-in-Some
+returns-in-Some c = let a = c.args in ap (part_at a.names a.end) (sym c.in-Some.is)
 
-pub returns-in-Nowhere : goal.returns-in-Nowhere
-returns-in-Nowhere c = let a = c.args in ap (part_at a.names a.end) (sym c.in-Nowhere.is)
+pub returns-in-None : goal.returns-in-None
+returns-in-None c = let a = c.args in ap (part_at a.names a.end) (sym c.in-None.is)

@@ -6,11 +6,11 @@ use Rattle.spelling.proofs.Spelled.{interval_moves, tone_worded}
 use Rattle.spelling.proofs.tones.numbered_word.Goals as goal
 
 pub tone_word-requires : goal.tone_word-requires
-tone_word-requires c = (c.requires, rw (c.st.ensures, c.numeric.ensures, c.to_degree-degree.ensures) (interval_moves spelled_by c.in-Is.interval))
+tone_word-requires c = (c.requires, rw (c.st.ensures, c.numeric.ensures, c.to_degree-degree.ensures) (interval_moves spelled_by c.in-Some.interval))
 
-pub returns-in-Is : goal.returns-in-Is
-returns-in-Is c = tone_worded spelled_by _ _ c.in-Is.interval _ _ _ _ (sym c.from_number.ensures ∙ c.in-Is.is) c.to_degree-degree.ensures c.st.ensures c.numeric.ensures c.tone_word.ensures
+pub returns-in-Some : goal.returns-in-Some
+returns-in-Some c = tone_worded spelled_by _ _ c.in-Some.interval _ _ _ _ (sym c.from_number.ensures ∙ c.in-Some.is) c.to_degree-degree.ensures c.st.ensures c.numeric.ensures c.tone_word.ensures
 
-pub returns-in-Nothing : goal.returns-in-Nothing
+pub returns-in-None : goal.returns-in-None
 unfolding low packed
-returns-in-Nothing c = rw (sym c.from_number.ensures ∙ c.in-Nothing.is)
+returns-in-None c = rw (sym c.from_number.ensures ∙ c.in-None.is)

@@ -1,11 +1,11 @@
 -- `strict::entry::check_keys` meets its contract. The loop's invariant: what is refused of the codes that are left is what is refused of all.
-use Rattle.answer.proofs.Kit.{◌≡◌, List, ℕ, ◌-◌, ◌≤◌, length, drop}
+use Rattle.answer.specs.declared.refusal.Refusal.{Refusal}
+use Rattle.answer.proofs.Kit.{◌≡◌, List, ℕ, ◌-◌, ◌≤◌, length, drop, Result, ⊤}
 use Rattle.answer.proofs.FirstRefused.{refused_from}
-use Rattle.answer.specs.declared.refusal.Checked.{Checked}
 use Rattle.strict.specs.Strict.{is_no_key, not_akey, keys_checked}
 use Rattle.strict.proofs.entry.check_keys.Given as goal
 
-abbrev pub left : ℕ → List ℕ → Checked
+abbrev pub left : ℕ → List ℕ → Result ⊤ Refusal
 left i codes = refused_from is_no_key not_akey i (drop i codes)
 
 abbrev pub invariant-loop-i : goal.invariant-loop-i

@@ -1,10 +1,9 @@
 -- `voicings::voicing::voicing` meets its contract: the tests say what the call has to give, and `give` gives it.
-use Rattle.answer.proofs.Kit.{◌≡◌, sym, ap, ap₂, subst, ◌∙◌, List, ◌++◌, ℕ, suc, ◌+◌, ◌≤◌, add-one, arith, length, replicate, take_all}
+use Rattle.answer.proofs.Kit.{◌≡◌, sym, ap, ap₂, subst, ◌∙◌, List, ◌++◌, ℕ, suc, ◌+◌, ◌≤◌, add-one, arith, length, replicate, take_all, Ok}
 use Rattle.answer.specs.Replies.{Reply, text, Answered}
 use Rattle.answer.specs.Written.{Writes}
 use Rattle.answer.proofs.Rooms.{refused_by}
 use Rattle.answer.proofs.Writing.{also, same_text, counted, within}
-use Rattle.answer.specs.declared.refusal.Checked.TheVariants.{Passed}
 use Rattle.pool.specs.declared.pool.Tone.{Tone}
 use Rattle.pool.specs.Pool.{tones_of}
 use Rattle.pool.specs.private.Places.{tones_in, IsPool}
@@ -19,12 +18,12 @@ use Rattle.pairs.proofs.FirstBad.{Says, checked_says}
 use Rattle.pool.proofs.Sorted.{sorted_length}
 use Rattle.voicings.proofs.Replied.{IsGood, passed, chord_refused, pairs_refused, gives_voicing, few_bass}
 use Rattle.voicings.proofs.voicing.voicing.Goals as goal
-use Rattle.voicings.proofs.voicing.voicing.Goals.{After-nearest_lead-led, After-put_above-end, In-Passed}
+use Rattle.voicings.proofs.voicing.voicing.Goals.{After-nearest_lead-led, After-put_above-end, In-Ok}
 
 -- the record is good
-module _ (c : In-Passed) where
-  good : chord_checked c.args.chord ≡ Passed
-  good = sym c.check_chord.ensures ∙ c.in-Passed.is
+module _ (c : In-Ok) where
+  good : chord_checked c.args.chord ≡ (Ok tt)
+  good = sym c.check_chord.ensures ∙ c.in-Ok.is
 
   is_good : IsGood c.args.chord
   is_good = passed c.args.chord good
@@ -34,8 +33,8 @@ module _ (c : After-nearest_lead-led) where
   abbrev tones : List Tone
   tones = tones_of c.args.classes.now c.args.intervals.now
 
-  good_pairs : pairs_checked tones ≡ Passed
-  good_pairs = sym c.check_pairs.ensures ∙ c.in-Passed-check_pairs.is
+  good_pairs : pairs_checked tones ≡ (Ok tt)
+  good_pairs = sym c.check_pairs.ensures ∙ c.in-Ok-check_pairs.is
 
   at_most_16 : length tones ≤ 16
   at_most_16 = (subst (Says tones) good_pairs (checked_says tones)).0
@@ -77,26 +76,26 @@ module _ (c : After-put_above-end) where
       (ap (λ (l : List ℕ). bass_keys c.args.chord.root c.args.chord.bass ++ l) e)
       (also c.put_bass-place.ensures c.put_above-end.ensures)
 
-pub returns-in-Refused : goal.returns-in-Refused
-returns-in-Refused c = refused_by _ _ _ (chord_refused c.args.chord _ _ _ (sym c.check_chord.ensures ∙ c.in-Refused.is))
+pub returns-in-Err : goal.returns-in-Err
+returns-in-Err c = refused_by _ _ _ (chord_refused c.args.chord _ _ _ (sym c.check_chord.ensures ∙ c.in-Err.is))
 
-pub returns-in-Refused-check_pairs : goal.returns-in-Refused-check_pairs
-returns-in-Refused-check_pairs c =
+pub returns-in-Err-check_pairs : goal.returns-in-Err-check_pairs
+returns-in-Err-check_pairs c =
     refused_by _ _ _
-    (pairs_refused c.args.chord _ _ (good (goal.at.returns-in-Refused-check_pairs c).In-Passed) _ (sym c.check_pairs.ensures ∙ c.in-Refused-check_pairs.is))
+    (pairs_refused c.args.chord _ _ (good (goal.at.returns-in-Err-check_pairs c).In-Ok) _ (sym c.check_pairs.ensures ∙ c.in-Err-check_pairs.is))
 
 -- the chord's keys are bytes
 pub overflow_cast-lowest : goal.overflow_cast-lowest
-overflow_cast-lowest c = let g = is_good (goal.at.overflow_cast-lowest c).In-Passed in omega (arith, g.rises, g.midi)
+overflow_cast-lowest c = let g = is_good (goal.at.overflow_cast-lowest c).In-Ok in omega (arith, g.rises, g.midi)
 
 pub overflow_cast-highest : goal.overflow_cast-highest
-overflow_cast-highest c = omega (arith, (is_good (goal.at.overflow_cast-highest c).In-Passed).midi)
+overflow_cast-highest c = omega (arith, (is_good (goal.at.overflow_cast-highest c).In-Ok).midi)
 
 pub overflow_add-limit : goal.overflow_add-limit
-overflow_add-limit c = omega (arith, (is_good (goal.at.overflow_add-limit c).In-Passed).midi)
+overflow_add-limit c = omega (arith, (is_good (goal.at.overflow_add-limit c).In-Ok).midi)
 
 pub put_bass-place-requires : goal.put_bass-place-requires
-put_bass-place-requires c = let g = is_good (goal.at.put_bass-place-requires c).In-Passed in (g.root, g.bass, omega arith)
+put_bass-place-requires c = let g = is_good (goal.at.put_bass-place-requires c).In-Ok in (g.root, g.bass, omega arith)
 
 pub put_above-end-requires : goal.put_above-end-requires
 put_above-end-requires c = (
@@ -114,11 +113,11 @@ slice_bounds-give-end c =
     let at = goal.at.slice_bounds-give-end c in
     counted (stands at.After-put_above-end (above_is at.After-nearest_lead-led))
 
-pub returns-in-Passed-check_pairs : goal.returns-in-Passed-check_pairs
-returns-in-Passed-check_pairs c =
-    let at = goal.at.returns-in-Passed-check_pairs c in
+pub returns-in-Ok-check_pairs : goal.returns-in-Ok-check_pairs
+returns-in-Ok-check_pairs c =
+    let at = goal.at.returns-in-Ok-check_pairs c in
     let lead = at.After-nearest_lead-led in
     let reply =
     ap text (stands at.After-put_above-end (above_is lead)).added
-    ∙ sym (gives_voicing c.args.chord c.args.classes.now c.args.intervals.now (good at.In-Passed) (good_pairs lead)) in
+    ∙ sym (gives_voicing c.args.chord c.args.classes.now c.args.intervals.now (good at.In-Ok) (good_pairs lead)) in
     subst (λ (x : Reply). Answered x c.args.out.now c.give.result c.give.new.out) reply c.give.ensures

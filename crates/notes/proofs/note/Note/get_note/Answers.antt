@@ -1,8 +1,7 @@
 -- `notes::note::Note::get_note` meets its contract: the tests say which case of its answer holds.
-use Rattle.answer.proofs.Kit.{ap, ◌<◌, arith, le-leb, lt-leb}
+use Rattle.answer.proofs.Kit.{ap, ◌<◌, arith, le-leb, lt-leb, Ok}
 use Rattle.answer.proofs.Tests.{refused, admitted}
 use Rattle.notes.specs.Notes.{get_note_answer}
-use Rattle.notes.specs.declared.note.NoteAnswer.TheVariants.{Is}
 use Rattle.notes.proofs.note.Note.get_note.Goals as goal
 
 pub returns-then-not-is_note : goal.returns-then-not-is_note
@@ -31,4 +30,4 @@ pub returns : goal.returns
 unfolding get_note_answer
 returns c = let note = admitted _ _ c.is_note.ensures c.if-not-is_note.false-raw in
     let least : 0 < c.args.degree = omega arith in
-    simp (note, le-leb _ _ c.if-semitones-gt24.false, le-leb _ _ least, le-leb _ _ c.if-degree-gt14.false) (ap Is c.moved.ensures)
+    simp (note, le-leb _ _ c.if-semitones-gt24.false, le-leb _ _ least, le-leb _ _ c.if-degree-gt14.false) (ap Ok c.moved.ensures)

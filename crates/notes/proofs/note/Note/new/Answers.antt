@@ -1,11 +1,9 @@
 -- `notes::note::Note::new` meets its contract: a signed number whose bits are 0 is 0.
-use Rattle.answer.proofs.Kit.{◌≡◌, ap, sym, ◌∙◌, T, eqb, eqb→eq, not_T, ℤ, pos, negsuc}
+use Rattle.answer.proofs.Kit.{◌≡◌, ap, sym, ◌∙◌, T, eqb, eqb→eq, not_T, ℤ, pos, negsuc, Option, Some}
 use mir.Syntax.{w32}
 use mir.Val.{SFits, to_z, of_z}
 use mir.Facts.{to_z-of_z}
 use Rattle.notes.specs.Notes.{note_of}
-use Rattle.notes.specs.declared.note.Accidental.{Accidental}
-use Rattle.notes.specs.declared.note.Accidental.TheVariants.{Count}
 use Rattle.notes.proofs.Counts.{not_zero, nonzero_count}
 use Rattle.notes.proofs.note.Note.new.Goals as goal
 
@@ -21,5 +19,5 @@ pub returns-then-count-eq0 : goal.returns-then-count-eq0
 returns-then-count-eq0 c = ap (note_of c.args.letter) (sym (zero_bits _ c.ranges.count c.if-count-eq0.true))
 
 pub returns : goal.returns
-returns c = ap (λ (a : Accidental). record { letter = c.args.letter; accidental = a })
-    (ap Count (to_z-of_z c.ranges.count) ∙ nonzero_count _ (other_bits _ c.if-count-eq0.false))
+returns c = ap (λ (a : Option ℤ). record { letter = c.args.letter; accidental = a })
+    (ap Some (to_z-of_z c.ranges.count) ∙ nonzero_count _ (other_bits _ c.if-count-eq0.false))

@@ -1,8 +1,7 @@
 -- `notes::note::Note::to_semitone` meets its contract.
-use Rattle.answer.proofs.Kit.{ap}
+use Rattle.answer.proofs.Kit.{ap, Ok}
 use Rattle.answer.proofs.Tests.{refused, admitted}
 use Rattle.notes.specs.Notes.{semitone_answer}
-use Rattle.notes.specs.declared.note.SemitoneAnswer.TheVariants.{Is}
 use Rattle.notes.proofs.note.Note.to_semitone.Goals as goal
 
 pub returns-then-not-is_note : goal.returns-then-not-is_note
@@ -15,4 +14,4 @@ pitch-requires c = admitted _ _ c.is_note.ensures c.if-not-is_note.false-raw
 
 pub returns : goal.returns
 unfolding semitone_answer
-returns c = rw (admitted _ _ c.is_note.ensures c.if-not-is_note.false-raw) (ap Is c.pitch.ensures.0)
+returns c = rw (admitted _ _ c.is_note.ensures c.if-not-is_note.false-raw) (ap Ok c.pitch.ensures.0)

@@ -1,8 +1,7 @@
 -- `notes::note::Note::transpose` meets its contract: the tests say whether all three are notes.
-use Rattle.answer.proofs.Kit.{◌≡◌, ap, ap₂, ◌∙◌, true, ℕ, ◌+◌, ◌-◌, ◌%◌, ◌<◌, arith}
+use Rattle.answer.proofs.Kit.{◌≡◌, ap, ap₂, ◌∙◌, true, ℕ, ◌+◌, ◌-◌, ◌%◌, ◌<◌, arith, Ok}
 use Rattle.answer.proofs.Tests.{refused, admitted}
 use Rattle.notes.specs.Notes.{is_note, get_note, transposed, transpose_answer}
-use Rattle.notes.specs.declared.note.NoteAnswer.TheVariants.{Is}
 use Rattle.notes.proofs.Moves.{letter_less}
 use Rattle.notes.proofs.note.Note.transpose.Goals as goal
 use Rattle.notes.proofs.note.Note.transpose.Goals.{Else-not-is_note, Else-not-is_note-2, Else-not-is_note-3}
@@ -57,4 +56,4 @@ unfolding transposed transpose_answer
 returns c = let a = c.args in
     let steps = (a.to.letter + 7 - a.self.letter) % 7 in
     simp (from_is_note (goal.at.returns c).Else-not-is_note, note_is_note (goal.at.returns c).Else-not-is_note-2, to_is_note (goal.at.returns c).Else-not-is_note-3)
-    (ap Is (c.moved.ensures ∙ ap₂ (λ (t f : ℕ). get_note a.note ((t + 12 - f) % 12) (steps + 1)) c.pitch.ensures.0 c.pitch-2.ensures.0))
+    (ap Ok (c.moved.ensures ∙ ap₂ (λ (t f : ℕ). get_note a.note ((t + 12 - f) % 12) (steps + 1)) c.pitch.ensures.0 c.pitch-2.ensures.0))
