@@ -66,4 +66,4 @@ returns-in-HarmonyEnd c = record { are = refl; says = rw c.in-HarmonyEnd.is }
 
 pub returns-in-Nothing : goal.returns-in-Nothing
 unfolding bytes digits text_of words_text are_words
-returns-in-Nothing c = record { are = refl; says = rw c.in-None.is }
+returns-in-Nothing c = record { are = refl; says = rw c.in-Nothing.is }
