@@ -4,13 +4,20 @@
 --     Decides        a contract, as its function's proof and its callers read it (`Post`), allows one answer to each call
 --     DecidesWith    and one content of the range that it was lent
 --     DecidesShown   or, of a reference that it hands back, where that points and the bytes there: what else it has is of the logic, and not of the machine
+--     DecidesBytes   or the bytes alone that such a reference shows
 --     F-decides      the contract of `F` does
 use denote.Ref.{Bor}
-use Rattle.answer.proofs.Kit.{◌≡◌, sym, ◌∙◌, List, ℕ, Bor}
+use Rattle.std.proofs.Common.{Fits, w64}
+use Rattle.answer.proofs.Kit.{◌≡◌, refl, sym, ◌∙◌, List, ℕ, Bor}
 use Rattle.answer.proofs.refusal.Refusal.number.Reads as number
 use Rattle.answer.proofs.refusal.Refusal.place.Reads as place
 use Rattle.answer.proofs.output.give.Reads as give
 use Rattle.answer.proofs.word.put.Reads as put
+use Rattle.answer.proofs.text.Text.new.Reads as new
+use Rattle.answer.proofs.text.Text.push.Reads as push
+use Rattle.answer.proofs.text.Text.push_byte.Reads as push_byte
+use Rattle.answer.proofs.text.Text.as_slice.Reads as as_slice
+use Rattle.answer.proofs.text.Text.give.Reads as text_give
 
 pub determined {ℓ} : {A : Type ℓ} {x y told : A} → x ≡ told → y ≡ told → x ≡ y
 determined p q = p ∙ sym q
@@ -31,6 +38,9 @@ abbrev pub DecidesShown {ℓ} : {K : Type ℓ} {A S : K → Type 0} → ((κs : 
 DecidesShown {K} {A} {S} Post =
     (κs : K) (a : A κs) (r r' : Bor (List ℕ)) (s s' : S κs) → Post κs a r s → Post κs a r' s' → (r.ref_ptr ≡ r'.ref_ptr) × (r.now ≡ r'.now)
 
+abbrev pub DecidesBytes {ℓ} : {K : Type ℓ} {A S : K → Type 0} → ((κs : K) → A κs → Bor (List ℕ) → S κs → Type 0) → Type ℓ
+DecidesBytes {K} {A} {S} Post = (κs : K) (a : A κs) (r r' : Bor (List ℕ)) (s s' : S κs) → Post κs a r s → Post κs a r' s' → r.now ≡ r'.now
+
 pub number_decides : Decides number.Post
 number_decides κs a r r' s s' = determined
 
@@ -42,3 +52,19 @@ give_decides κs a r r' s s' = both
 
 pub put_decides : DecidesWith put.Post (λ κs s. s.0.now)
 put_decides κs a r r' s s' = both
+
+module _ (n : ℕ) (small : Fits w64 n) where
+  pub new_decides : Decides (new.Post n small)
+  new_decides κs a r r' s s' = determined
+
+  pub push_decides : DecidesWith (push.Post n small) (λ κs s. s.0.now)
+  push_decides κs a r r' s s' p q = (refl, determined p q)
+
+  pub push_byte_decides : DecidesWith (push_byte.Post n small) (λ κs s. s.0.now)
+  push_byte_decides κs a r r' s s' p q = (refl, determined p q)
+
+  pub as_slice_decides : DecidesBytes (as_slice.Post n small)
+  as_slice_decides κs a r r' s s' = determined
+
+  pub text_give_decides : DecidesWith (text_give.Post n small) (λ κs s. s.1.0.now)
+  text_give_decides κs a r r' s s' = both

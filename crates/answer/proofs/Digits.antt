@@ -1,34 +1,20 @@
--- A word's bytes: how eight stores in a row stand in a buffer, and that a word gives its text back.
+-- A word's bytes: how they stand in a buffer, and that a word gives its text back.
 --     put_nothing    where a word's bytes have no room, the place and the buffer stay
---     put_whole      where they have, eight stores in a row are `put_at`
+--     put_whole      where they have, they go to their place: that is `put_at`
 --     packed_cons    a word, without its first byte and with it
 --     is_short       a text that a word can hold
 --     put_text       such a text's word, put at a place, adds the text to what stands before the place
 --     put_first      and put first, it is the text
-use Rattle.answer.proofs.Kit.{◌≡◌, refl, ap, ap₂, subst, ◌∙◌, Bool, true, ◌&&◌, List, [], ◌∷◌, ◌++◌, ℕ, zero, suc, ◌+◌, ◌*◌, ◌/◌, ◌%◌, ◌-◌, ◌^◌, ◌≤◌, ◌<◌, arith, zero-add, div-div-eq-div-mul, mod-eq_of_lt, not-suc-le-zero, le_of_suc-le-suc, lt_of_lt_of_le, pow-succ', pow-le-pow_right, mul_assoc, pow-add, unary_clauses, le-leb, lt-leb, T, leb, ltb, ltb→lt, leb→le, lit<, length, take, drop, set, length-append, sets, sets-eq, length-take-le, take-append-le, take-append-add}
+use Rattle.answer.proofs.Kit.{◌≡◌, refl, sym, ap, ap₂, append_assoc, drop-drop, subst, ◌∙◌, Bool, true, ◌&&◌, List, [], ◌∷◌, ◌++◌, ℕ, zero, suc, ◌+◌, ◌*◌, ◌/◌, ◌%◌, ◌-◌, ◌^◌, ◌≤◌, ◌<◌, arith, zero-add, div-div-eq-div-mul, mod-eq_of_lt, not-suc-le-zero, le_of_suc-le-suc, lt_of_lt_of_le, pow-succ', pow-le-pow_right, mul_assoc, pow-add, unary_clauses, le-leb, lt-leb, T, leb, ltb, ltb→lt, leb→le, lit<, length, take, drop, set, length-append, sets, sets-eq, length-take-le, take-append-le, take-append-add}
+use Rattle.std.specs.Int.{w64, to_le_bytes}
+use borrow.Rule.Slice.PartMut.{put_mid}
 use Rattle.answer.proofs.Tests.{left, right}
 use Rattle.answer.specs.Words.{low, packed, digits, long, place_after, put_at}
 
--- the digits of a word, as the code takes them
-abbrev eight : ℕ → List ℕ
-eight w =
-    w % 256 ∷ w / 0x100 % 256 ∷ w / 0x1_0000 % 256 ∷ w / 0x100_0000 % 256 ∷ w / 0x1_0000_0000 % 256
-    ∷ w / 0x100_0000_0000 % 256 ∷ w / 0x1_0000_0000_0000 % 256 ∷ w / 0x100_0000_0000_0000 ∷ []
-
-eight_digits : (w : ℕ) → w < 2 ^ 64 → eight w ≡ digits 8 w
+-- the bytes of a number, as the code takes them
+le_digits : (w : ℕ) → to_le_bytes w64 w ≡ digits 8 w
 unfolding digits
-eight_digits w h =
-    let small : w / 0x100_0000_0000_0000 < 256 = omega arith in
-    simp (div-div-eq-div-mul, mod-eq_of_lt small)
-
--- eight stores in a row
-abbrev stores : List ℕ → ℕ → ℕ → List ℕ
-stores l i w =
-    set (set (set (set (set (set (set (set l i (w % 256)) (i + 1) (w / 0x100 % 256)) (i + 2) (w / 0x1_0000 % 256)) (i + 3) (w / 0x100_0000 % 256))
-    (i + 4) (w / 0x1_0000_0000 % 256)) (i + 5) (w / 0x100_0000_0000 % 256)) (i + 6) (w / 0x1_0000_0000_0000 % 256)) (i + 7) (w / 0x100_0000_0000_0000)
-
-stores_sets : (l : List ℕ) (i w : ℕ) → stores l i w ≡ sets l i (eight w)
-stores_sets l i w = simp unary_clauses
+le_digits w = simp div-div-eq-div-mul
 
 abbrev pub Put : List ℕ → ℕ → ℕ → ℕ → List ℕ → Type 0
 Put l i w r l' = (r ≡ place_after l i w) × (l' ≡ put_at l i w)
@@ -37,10 +23,11 @@ pub put_nothing : (l : List ℕ) (i w : ℕ) → length l < i + 8 → Put l i w 
 unfolding place_after put_at
 put_nothing l i w h = (simp (lt-leb _ _ h), simp (lt-leb _ _ h))
 
-pub put_whole : (l : List ℕ) (i w : ℕ) → i + 8 ≤ length l → w < 2 ^ 64 → Put l i w (i + long w) (stores l i w)
+pub put_whole : (l : List ℕ) (i w : ℕ) → i + 8 ≤ length l → Put l i w (i + long w) (put_mid i (i + 8 - i) l (to_le_bytes w64 w))
 unfolding place_after put_at
-put_whole l i w h small =
-    (simp (le-leb _ _ h), stores_sets l i w ∙ sets-eq (eight w) l i h ∙ simp (le-leb _ _ h, eight_digits w small))
+put_whole l i w h =
+    let eight : i + 8 - i ≡ 8 = omega arith in
+    (simp (le-leb _ _ h), ap₂ (λ (k : ℕ) (t : List ℕ). put_mid i k l t) eight (le_digits w) ∙ rw (drop-drop 8 i l, le-leb _ _ h) (sym (append_assoc (take i l) (digits 8 w) (drop (i + 8) l))))
 
 pub packed_cons : (b : ℕ) (t : List ℕ) → packed (b ∷ t) ≡ b + packed (0 ∷ t)
 unfolding packed low

@@ -13,3 +13,4 @@ pub mod First
 pub mod FirstRefused
 pub mod Between
 pub mod Standing
+pub mod Made

@@ -4,3 +4,4 @@ pub mod Words
 pub mod Written
 pub mod Lines
 pub mod First
+pub mod Made

@@ -4,4 +4,5 @@
 
 pub mod output;
 pub mod refusal;
+pub mod text;
 pub mod word;

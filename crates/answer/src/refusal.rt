@@ -39,9 +39,9 @@ impl Refusal {
         ensures { result ≡ (told_of self).place }
     {
         match self {
-            Refusal::BadPairClass(place) | Refusal::BadPairInterval(place) | Refusal::NotAKey(place) => {
-                Some(place)
-            }
+            Refusal::BadPairClass(place)
+            | Refusal::BadPairInterval(place)
+            | Refusal::NotAKey(place) => { Some(place) }
             _ => None,
         }
     }

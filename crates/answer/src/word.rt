@@ -14,13 +14,6 @@ pub fn put(buffer: &mut [u8], at: usize, word: u64) -> usize
     if buffer.len() - 8 < at {
         return at;
     }
-    buffer[at] = (word % 256) as u8;
-    buffer[at + 1] = (word / 0x100 % 256) as u8;
-    buffer[at + 2] = (word / 0x1_0000 % 256) as u8;
-    buffer[at + 3] = (word / 0x100_0000 % 256) as u8;
-    buffer[at + 4] = (word / 0x1_0000_0000 % 256) as u8;
-    buffer[at + 5] = (word / 0x100_0000_0000 % 256) as u8;
-    buffer[at + 6] = (word / 0x1_0000_0000_0000 % 256) as u8;
-    buffer[at + 7] = (word / 0x100_0000_0000_0000) as u8;
-    at + (word / 0x100_0000_0000_0000) as usize
+    buffer[at..at + 8].copy_from_slice(&word.to_le_bytes());
+    at + (word >> 56) as usize
 }
