@@ -4,4 +4,5 @@
 pub mod classes;
 pub mod descriptor;
 pub mod kinds;
+pub mod members;
 pub mod showing;
