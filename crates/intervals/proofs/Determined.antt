@@ -9,6 +9,8 @@ use Rattle.intervals.proofs.interval.Interval.to_degree.Reads as to-degree
 use Rattle.intervals.proofs.interval.Interval.to_chord_notation.Reads as to-chord-notation
 use Rattle.intervals.proofs.interval.IntDegree.numeric.Reads as numeric
 use Rattle.intervals.proofs.set.is_rooted.Reads as is_rooted_lem
+use Rattle.intervals.proofs.set.Rooted.new.Reads as new
+use Rattle.intervals.proofs.set.Rooted.set.Reads as set
 use Rattle.intervals.proofs.bass.is_bass.Reads as is_bass_lem
 
 pub from_number_decides : Decides from-number.Post
@@ -34,6 +36,12 @@ numeric_decides κs a r r' s s' = determined
 
 pub is_rooted_decides : Decides is_rooted_lem.Post
 is_rooted_decides κs a r r' s s' = determined
+
+pub new_decides : Decides new.Post
+new_decides κs a r r' s s' = determined
+
+pub set_decides : Decides set.Post
+set_decides κs a r r' s s' p q = determined p.0 q.0
 
 pub is_bass_decides : Decides is_bass_lem.Post
 is_bass_decides κs a r r' s s' = determined

@@ -1,6 +1,8 @@
 -- Sets of pitch classes: paper 01, "Sets and intervals" ("A set is a number 0..4095; class k is the bit worth 2^k. It is rooted
 -- when class 0 is in it"). Sets of intervals and of degrees are numbers of the same kind.
-use Rattle.std.specs.Prelude.{Bool, true, false, not, cond, ◌&&◌, ◌||◌, List, [], ◌∷◌, ℕ, zero, suc, ◌+◌, ◌-◌, ◌/◌, ◌%◌, ◌^◌, eqb, leb}
+use Rattle.std.specs.Prelude.{Bool, true, false, not, cond, ◌&&◌, ◌||◌, List, [], ◌∷◌, ℕ, zero, suc, ◌+◌, ◌-◌, ◌/◌, ◌%◌, ◌^◌, eqb, leb, Result, Ok, Err}
+use Rattle.answer.specs.declared.refusal.Refusal.{Refusal}
+use Rattle.answer.specs.declared.refusal.Refusal.TheVariants.{NotASet}
 
 -- a number that is a set of classes
 unfoldable pub is_set : ℕ → Bool
@@ -13,6 +15,10 @@ has s k = eqb (s / 2 ^ k % 2) 1
 -- a set with class 0 in it
 unfoldable pub is_rooted : ℕ → Bool
 is_rooted s = is_set s && has s 0
+
+-- a rooted set, or refusal 1
+unfoldable pub rooted_answer : ℕ → Result ℕ Refusal
+rooted_answer s = cond (is_rooted s) (Ok s) (Err NotASet)
 
 -- each of some classes is in the set
 unfoldable pub has_all : ℕ → List ℕ → Bool
