@@ -10,7 +10,7 @@ use crate::kinds::kind_of;
 use crate::showing::shown_quality;
 use answer::refusal::Refusal;
 use intervals::interval::{AUGMENTED_FIFTH, DIMINISHED_FIFTH, ELEVENTH, FLAT_NINTH, FLAT_THIRTEENTH, Interval, MAJOR_SEVENTH, MAJOR_SIXTH, MAJOR_THIRD, NINTH, PERFECT_FIFTH, SHARP_ELEVENTH, SHARP_NINTH, THIRTEENTH};
-use intervals::set::is_rooted;
+use intervals::set::Rooted;
 use qualities::quality::ChordQuality;
 
 const FIFTHS: u32 = DIMINISHED_FIFTH | PERFECT_FIFTH | AUGMENTED_FIFTH;
@@ -158,11 +158,8 @@ fn omitted_fifth(intervals: u32) -> u32
 pub fn describe(set: u32) -> Result<Descriptor, Refusal>
     ensures { result ≡ descriptor_answer set }
 {
-    if !is_rooted(set) {
-        return Err(Refusal::NotASet);
-    }
+    let quality = shown_quality(Rooted::new(set)?);
     let found = intervals(set);
-    let quality = shown_quality(set);
     let alterations = found & quality.alteration_mask();
     let extensions = within(found, quality.extension_mask());
     let split = split_extensions(quality, alterations, extensions);

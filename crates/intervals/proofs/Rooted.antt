@@ -5,9 +5,12 @@
 --     rooted_count     2,048 numbers are rooted sets
 --     at_rooted        a test that passes at each of them passes at one
 --     by_halves        the same, of two computed tests, for what is too much for one
-use Rattle.answer.proofs.Kit.{◌≡◌, refl, ap, sym, subst, ◌∙◌, Bool, true, ◌&&◌, ℕ, ◌+◌, ◌-◌, ◌*◌, ◌/◌, ◌%◌, ◌≤◌, div-one, dec_le, arith, T, eqb, leb, eqb→eq, leb→le, eq-eqb, le-leb}
+--     rooted_ok, rooted_err     what `Rooted::new` told where it gave a set, and where it refused
+use Rattle.answer.proofs.Kit.{◌≡◌, refl, ap, sym, subst, ◌∙◌, Bool, true, false, true≢false, cond, ◌&&◌, ℕ, ◌+◌, ◌-◌, ◌*◌, ◌/◌, ◌%◌, ◌≤◌, div-one, dec_le, arith, T, eqb, leb, eqb→eq, leb→le, eq-eqb, le-leb, Ok, Err}
 use Rattle.answer.proofs.Tests.{left, right, said, all, at}
-use Rattle.intervals.specs.Sets.{is_set, has, is_rooted, count_below}
+use Rattle.answer.specs.declared.refusal.Refusal.{Refusal}
+use Rattle.answer.specs.declared.refusal.Refusal.TheVariants.{NotASet}
+use Rattle.intervals.specs.Sets.{is_set, has, is_rooted, rooted_answer, count_below}
 
 pub rooted_test : (s : ℕ) → leb s 4095 && eqb (s % 2) 1 ≡ is_rooted s
 unfolding is_set has is_rooted
@@ -55,3 +58,20 @@ by_halves f low high s is = by_order (dec_le 1024 (s / 2))
     by_order (no h) =
         let there : s / 2 * 2 + 1 ≡ s = omega (arith, odd) in
         subst (λ (x : ℕ). T (f x)) there (at (λ h. f (rooted h)) 1024 low (s / 2) (omega arith))
+
+module _ (s : ℕ) where
+  pub rooted_ok : (r : ℕ) → rooted_answer s ≡ Ok r → (is_rooted s ≡ true) × (r ≡ s)
+  unfolding rooted_answer
+  rooted_ok r e = by_case (is_rooted s) refl e
+    where
+      by_case : (b : Bool) → is_rooted s ≡ b → cond b (Ok s) (Err NotASet) ≡ Ok r → (is_rooted s ≡ true) × (r ≡ s)
+      by_case true h e = (h, cc)
+      by_case false h e = absurd (true≢false cc)
+
+  pub rooted_err : (why : Refusal) → rooted_answer s ≡ Err why → (is_rooted s ≡ false) × (why ≡ NotASet)
+  unfolding rooted_answer
+  rooted_err why e = by_case (is_rooted s) refl e
+    where
+      by_case : (b : Bool) → is_rooted s ≡ b → cond b (Ok s) (Err NotASet) ≡ Err why → (is_rooted s ≡ false) × (why ≡ NotASet)
+      by_case true h e = absurd (true≢false cc)
+      by_case false h e = (h, cc)

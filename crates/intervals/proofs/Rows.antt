@@ -1,5 +1,4 @@
 -- Laws of the table of intervals.
---     row_tells     the row of an interval tells of it
 --     past          a number past the last interval names none
 --     at_interval   a test that passes at each interval passes at one
 --     numbered_back, numbered_none, number_small, set_small     an interval's number names it, is below 23, and so a set of intervals below 2 ^ 23
@@ -12,22 +11,7 @@ use Rattle.intervals.specs.Sets.{bits}
 use Rattle.intervals.specs.private.Rows.{Tells}
 use Rattle.intervals.specs.declared.interval.Interval.{Interval}
 use Rattle.intervals.specs.declared.interval.Interval.TheVariants.{Unison, MinorSecond, MajorSecond, MinorThird, MajorThird, PerfectFourth, AugmentedFourth, DiminishedFifth, PerfectFifth, AugmentedFifth, MinorSixth, MajorSixth, DiminishedSeventh, MinorSeventh, MajorSeventh, Octave, FlatNinth, Ninth, SharpNinth, Eleventh, SharpEleventh, FlatThirteenth, Thirteenth}
-use Rattle.intervals.specs.declared.interval.About.{About}
 use Rattle.intervals.proofs.Members.{with_less}
-
--- an interval's row
-abbrev pub row_for : Interval → About
-row_for i = record { 0 = number_of i; 1 = semitones_of i; 2 = degree_of i; 3 = to_degree_of i; 4 = packed (notation_of i) }
-
-pub row_tells : (i k : Interval) → i ≡ k → Tells i (row_for k)
-row_tells i k e =
-    record {
-      number = ap number_of (sym e);
-      semitones = ap semitones_of (sym e);
-      degree = ap degree_of (sym e);
-      to_degree = ap to_degree_of (sym e);
-      notation = ap (λ (j : Interval). packed (notation_of j)) (sym e);
-    }
 
 nth_past : (l : List Interval) (n : ℕ) → length l ≤ n → nth l n ≡ None
 unfolding nth

@@ -8,8 +8,5 @@ use crate::set::LAST_CLASS;
 pub fn is_bass(bass: Option<u32>) -> bool
     ensures { result ≡ is_bass bass }
 {
-    match bass {
-        None => true,
-        Some(class) => class <= LAST_CLASS,
-    }
+    bass.map_or(true, |class| class <= LAST_CLASS)
 }

@@ -4,7 +4,7 @@ ghost use Rattle.answer.specs.Words.{packed};
 ghost use Rattle.intervals.specs.private.Rows.{Tells};
 ghost use Rattle.intervals.specs.Intervals.{numbered, number_of, semitones_of, degree_of, to_degree_of, notation_of, numeric_of};
 
-#[derive(Clone, Copy)]
+#[derive(Clone, Copy, PartialEq, Eq, Debug)]
 pub enum Interval {
     Unison,
     MinorSecond,
@@ -31,7 +31,7 @@ pub enum Interval {
     Thirteenth,
 }
 
-#[derive(Clone, Copy)]
+#[derive(Clone, Copy, PartialEq, Eq, Debug)]
 pub enum IntDegree {
     Root,
     Second,
@@ -96,6 +96,7 @@ struct About(u32, u32, IntDegree, IntDegree, u64);
 
 impl Interval {
     // The interval that a number names: 0 to 22, in the order above.
+    #[tactic(auto, using(crate::proofs::Rows::past), unfolding(crate::specs::Intervals::intervals, crate::specs::Intervals::nth, crate::specs::Intervals::numbered))]
     pub fn from_number(number: u32) -> Option<Interval>
         ensures { result ≡ numbered number }
     {
@@ -127,6 +128,7 @@ impl Interval {
         }
     }
 
+    #[tactic(auto, unfolding(answer::specs::Words::bytes, answer::specs::Words::low, answer::specs::Words::packed))]
     fn about(self) -> About
         ensures { Tells self result }
     {
@@ -160,36 +162,31 @@ impl Interval {
     pub fn number(self) -> u32
         ensures { result ≡ number_of self }
     {
-        let about = self.about();
-        about.0
+        self.about().0
     }
 
     pub fn st(self) -> u32
         ensures { result ≡ semitones_of self }
     {
-        let about = self.about();
-        about.1
+        self.about().1
     }
 
     pub fn degree(self) -> IntDegree
         ensures { result ≡ degree_of self }
     {
-        let about = self.about();
-        about.2
+        self.about().2
     }
 
     pub fn to_degree(self) -> IntDegree
         ensures { result ≡ to_degree_of self }
     {
-        let about = self.about();
-        about.3
+        self.about().3
     }
 
     pub fn to_chord_notation(self) -> u64
         ensures { result ≡ packed (notation_of self) }
     {
-        let about = self.about();
-        about.4
+        self.about().4
     }
 }
 
