@@ -35,93 +35,102 @@ const CLASS_11: u32 = 1 << 11;
 // How many sets there are: the classes of any number are its lowest twelve bits.
 const SETS: u32 = 1 << 12;
 
+// A set of classes.
+#[derive(Clone, Copy)]
+struct Classes {
+    bits: u32,
+    ghost small: { bits < 4096 },
+}
+
 // The intervals of a set of classes, a bit for each.
 pub fn intervals(set: u32) -> u32
     ensures { result ≡ set_of (intervals_of (set % 4096)) }
 {
-    let classes = set % SETS;
-    at_once(classes)
-        | resolve_third(classes)
-        | resolve_fourth(classes)
-        | resolve_sixth(classes)
-        | resolve_augmented_fifth(classes)
+    let classes = Classes { bits: set % SETS };
+    classes.at_once()
+        | classes.resolve_third()
+        | classes.resolve_fourth()
+        | classes.resolve_sixth()
+        | classes.resolve_augmented_fifth()
 }
 
-// Each class that has one interval only.
-fn at_once(set: u32) -> u32
-    requires { set < 4096 }
-    ensures { result ≡ set_of (at_once set) }
-{
-    set % 2 * UNISON
-        | set / CLASS_1 % 2 * FLAT_NINTH
-        | set / CLASS_2 % 2 * NINTH
-        | set / CLASS_4 % 2 * MAJOR_THIRD
-        | set / CLASS_5 % 2 * ELEVENTH
-        | set / CLASS_7 % 2 * PERFECT_FIFTH
-        | set / CLASS_10 % 2 * MINOR_SEVENTH
-        | set / CLASS_11 % 2 * MAJOR_SEVENTH
-}
+impl Classes {
+    // Each class that has one interval only.
+    fn at_once(self) -> u32
+        ensures { result ≡ set_of (at_once self.bits) }
+    {
+        let set = self.bits;
+        set % 2 * UNISON
+            | set / CLASS_1 % 2 * FLAT_NINTH
+            | set / CLASS_2 % 2 * NINTH
+            | set / CLASS_4 % 2 * MAJOR_THIRD
+            | set / CLASS_5 % 2 * ELEVENTH
+            | set / CLASS_7 % 2 * PERFECT_FIFTH
+            | set / CLASS_10 % 2 * MINOR_SEVENTH
+            | set / CLASS_11 % 2 * MAJOR_SEVENTH
+    }
 
-// 3 is #9 if a major third is present, else minor third.
-fn resolve_third(set: u32) -> u32
-    requires { set < 4096 }
-    ensures { result ≡ set_of (of_class3 set) }
-{
-    if set & CLASS_3 == 0 {
-        return 0;
+    // 3 is #9 if a major third is present, else minor third.
+    fn resolve_third(self) -> u32
+        ensures { result ≡ set_of (of_class3 self.bits) }
+    {
+        let set = self.bits;
+        if set & CLASS_3 == 0 {
+            return 0;
+        }
+        if set & CLASS_4 == CLASS_4 {
+            return SHARP_NINTH;
+        }
+        MINOR_THIRD
     }
-    if set & CLASS_4 == CLASS_4 {
-        return SHARP_NINTH;
-    }
-    MINOR_THIRD
-}
 
-// 6 is #11 if a perfect fifth is present, else b5.
-fn resolve_fourth(set: u32) -> u32
-    requires { set < 4096 }
-    ensures { result ≡ set_of (of_class6 set) }
-{
-    if set & CLASS_6 == 0 {
-        return 0;
+    // 6 is #11 if a perfect fifth is present, else b5.
+    fn resolve_fourth(self) -> u32
+        ensures { result ≡ set_of (of_class6 self.bits) }
+    {
+        let set = self.bits;
+        if set & CLASS_6 == 0 {
+            return 0;
+        }
+        if set & CLASS_7 == CLASS_7 {
+            return SHARP_ELEVENTH;
+        }
+        DIMINISHED_FIFTH
     }
-    if set & CLASS_7 == CLASS_7 {
-        return SHARP_ELEVENTH;
-    }
-    DIMINISHED_FIFTH
-}
 
-// 9 is 13 if a minor seventh is present, else diminished seventh if b5 and minor third are (6 without 7, 3 without 4), else
-// major sixth.
-fn resolve_sixth(set: u32) -> u32
-    requires { set < 4096 }
-    ensures { result ≡ set_of (of_class9 set) }
-{
-    if set & CLASS_9 == 0 {
-        return 0;
+    // 9 is 13 if a minor seventh is present, else diminished seventh if b5 and minor third are (6 without 7, 3 without 4), else
+    // major sixth.
+    fn resolve_sixth(self) -> u32
+        ensures { result ≡ set_of (of_class9 self.bits) }
+    {
+        let set = self.bits;
+        if set & CLASS_9 == 0 {
+            return 0;
+        }
+        if set & CLASS_10 == CLASS_10 {
+            return THIRTEENTH;
+        }
+        if set & (CLASS_3 | CLASS_4 | CLASS_6 | CLASS_7) == CLASS_3 | CLASS_6 {
+            return DIMINISHED_SEVENTH;
+        }
+        MAJOR_SIXTH
     }
-    if set & CLASS_10 == CLASS_10 {
-        return THIRTEENTH;
-    }
-    if set & (CLASS_3 | CLASS_4 | CLASS_6 | CLASS_7) == CLASS_3 | CLASS_6 {
-        return DIMINISHED_SEVENTH;
-    }
-    MAJOR_SIXTH
-}
 
-// 8 is b13 if a minor seventh, diminished seventh or major sixth is present (9 without 10 is one of the last two), else #5 if
-// a major third is, else b6.
-fn resolve_augmented_fifth(set: u32) -> u32
-    requires { set < 4096 }
-    ensures { result ≡ set_of (of_class8 set) }
-{
-    if set & CLASS_8 == 0 {
-        return 0;
+    // 8 is b13 if a minor seventh, diminished seventh or major sixth is present (9 without 10 is one of the last two), else #5 if
+    // a major third is, else b6.
+    fn resolve_augmented_fifth(self) -> u32
+        ensures { result ≡ set_of (of_class8 self.bits) }
+    {
+        let set = self.bits;
+        if set & CLASS_8 == 0 {
+            return 0;
+        }
+        if set & (CLASS_4 | CLASS_9 | CLASS_10) == CLASS_4 {
+            return AUGMENTED_FIFTH;
+        }
+        if set & (CLASS_4 | CLASS_9 | CLASS_10) == 0 {
+            return MINOR_SIXTH;
+        }
+        FLAT_THIRTEENTH
     }
-    if set & (CLASS_4 | CLASS_9 | CLASS_10) == CLASS_4 {
-        return AUGMENTED_FIFTH;
-    }
-    if set & (CLASS_4 | CLASS_9 | CLASS_10) == 0 {
-        return MINOR_SIXTH;
-    }
-    FLAT_THIRTEENTH
 }

@@ -9,7 +9,11 @@ use crate::classes::{CLASS_3, CLASS_4, CLASS_5, CLASS_9, intervals};
 use crate::kinds::kind_of;
 use crate::showing::shown_quality;
 use answer::refusal::Refusal;
-use intervals::interval::{AUGMENTED_FIFTH, DIMINISHED_FIFTH, ELEVENTH, FLAT_NINTH, FLAT_THIRTEENTH, Interval, MAJOR_SEVENTH, MAJOR_SIXTH, MAJOR_THIRD, NINTH, PERFECT_FIFTH, SHARP_ELEVENTH, SHARP_NINTH, THIRTEENTH};
+use intervals::interval::{
+    AUGMENTED_FIFTH, DIMINISHED_FIFTH, ELEVENTH, FLAT_NINTH, FLAT_THIRTEENTH, Interval,
+    MAJOR_SEVENTH, MAJOR_SIXTH, MAJOR_THIRD, NINTH, PERFECT_FIFTH, SHARP_ELEVENTH, SHARP_NINTH,
+    THIRTEENTH,
+};
 use intervals::set::Rooted;
 use qualities::quality::ChordQuality;
 

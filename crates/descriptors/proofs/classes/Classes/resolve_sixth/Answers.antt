@@ -1,0 +1,17 @@
+-- `descriptors::classes::Classes::resolve_sixth` meets its contract: the tests that led to a return say what the chain comes to.
+use Rattle.answer.proofs.Kit.{rules}
+use Rattle.answer.proofs.Chosen.{yes, no_then}
+use Rattle.rules.proofs.Resolved.{class_9_told}
+use Rattle.descriptors.proofs.classes.Classes.resolve_sixth.Goals as goal
+
+pub returns-then-set-eq0 : goal.returns-then-set-eq0
+returns-then-set-eq0 c = class_9_told _ _ c.args.self.small (search yes)
+
+pub returns-then-set-eq-CLASS_10 : goal.returns-then-set-eq-CLASS_10
+returns-then-set-eq-CLASS_10 c = class_9_told _ _ c.args.self.small (search (yes, no_then))
+
+pub returns-then-set : goal.returns-then-set
+returns-then-set c = class_9_told _ _ c.args.self.small (search (yes, no_then))
+
+pub returns : goal.returns
+returns c = class_9_told _ _ c.args.self.small (search no_then)

@@ -1,7 +1,0 @@
--- `descriptors::classes::at_once` meets its contract: what it computes is told at each set.
-use Rattle.answer.proofs.Kit.{rules}
-use Rattle.rules.proofs.Resolved.{once_told}
-use Rattle.descriptors.proofs.classes.at_once.Goals as goal
-
-pub returns : goal.returns
-returns c = once_told _ (search rules)
