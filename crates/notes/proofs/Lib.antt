@@ -4,3 +4,4 @@ pub mod Names
 pub mod Signs
 pub mod Determined
 pub mod Sounding
+pub mod Known

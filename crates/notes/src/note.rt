@@ -5,13 +5,14 @@ ghost use Rattle.answer.specs.Words.{packed};
 ghost use Rattle.notes.specs.Notes.{count_of, note_of, is_note, natural, semitone, spelled, get_note, semitone_answer, get_note_answer, transpose_answer};
 ghost use Rattle.notes.specs.NoteText.{letter_name, signs, note_name, note_reply};
 ghost use Rattle.notes.specs.private.Heights.{height_of, behind_letter};
+ghost use Rattle.notes.specs.private.Known.{known_answer};
 
-use answer::output::give;
 use answer::refusal::Refusal;
-use answer::word::put;
+use answer::text::Text;
+use std::marker::Model;
 
-// Letters are 0 to 6: C D E F G A B.
-#[derive(Clone, Copy)]
+// Letters are 0 to 6: C D E F G A B. An accidental is none, or so many sharps; flats are negative.
+#[derive(Clone, Copy, PartialEq, Eq, Debug)]
 pub struct Note {
     pub letter: u32,
     pub accidental: Option<i32>,
@@ -85,16 +86,6 @@ fn is_note(note: Note) -> bool
     (letter < 7) & (height(accidental) < NO_HEIGHT)
 }
 
-// The semitone of a note: a height is six more than its count.
-fn pitch(note: Note) -> u32
-    requires { is_note note ≡ true }
-    ensures { (result ≡ semitone note) × (result < 12) }
-{
-    let letter = note.letter;
-    let accidental = note.accidental;
-    (natural_semitone(letter) + height(accidental) + 6) % 12
-}
-
 // The note on a letter that sounds a pitch. The difference of the two, an octave up, is 1 to 23.
 fn spell(letter: u32, pitch: u32) -> Note
     requires { (letter < 7) × (pitch < 12) }
@@ -110,16 +101,8 @@ fn spell(letter: u32, pitch: u32) -> Note
     at_height(letter, above - 6)
 }
 
-fn moved(note: Note, semitones: u32, degree: u32) -> Note
-    requires { (is_note note ≡ true) × (semitones ≤ 24) × (0 < degree) × (degree ≤ 14) }
-    ensures { result ≡ get_note note semitones degree }
-{
-    let letter = note.letter;
-    let goal = (pitch(note) + semitones) % 12;
-    spell((letter + (degree - 1)) % 7, goal)
-}
-
 // The text of an accidental, as the word of a note is without its letter: that one's byte is 0.
+#[tactic(auto, unfolding(answer::specs::Words::bytes, answer::specs::Words::low, answer::specs::Words::packed, crate::specs::NoteText::signs, crate::specs::private::Heights::behind_letter))]
 fn behind_letter(height: u32) -> u64
     requires { height < 13 }
     ensures { (result ≡ behind_letter height) × (result < 2 ^ 60) }
@@ -150,6 +133,62 @@ fn letter_byte(letter: u32) -> u64
     ((letter + 2) % 7 + 65) as u64
 }
 
+// A note that is one. Clauses see the note.
+#[derive(Clone, Copy)]
+struct Known {
+    note: Note,
+}
+
+impl Model for Known {
+    ghost use Rattle.std.specs.Prelude.{◌≡◌, true};
+    ghost use Rattle.notes.specs.Notes.{is_note};
+    ghost use Rattle.notes.specs.declared.note.Note.{Note as Any};
+
+    ghost Value = { Any };
+
+    ghost view = { λ k. k.note };
+
+    ghost invariant = { λ k. is_note k.note ≡ true };
+
+    ghost inverse = { λ note. record { note = note } };
+}
+
+impl Known {
+    fn of(note: Note) -> Result<Known, Refusal>
+        ensures { result ≡ known_answer note }
+    {
+        if !is_note(note) {
+            return Err(Refusal::BadNote);
+        }
+        Ok(Known { note })
+    }
+
+    // The semitone of a note: a height is six more than its count.
+    fn pitch(self) -> u32
+        ensures { (result ≡ semitone self) × (result < 12) }
+    {
+        let note = self.note;
+        (natural_semitone(note.letter) + height(note.accidental) + 6) % 12
+    }
+
+    fn moved(self, semitones: u32, degree: u32) -> Note
+        requires { (semitones ≤ 24) × (0 < degree) × (degree ≤ 14) }
+        ensures { result ≡ get_note self semitones degree }
+    {
+        let letter = self.note.letter;
+        let goal = (self.pitch() + semitones) % 12;
+        spell((letter + (degree - 1)) % 7, goal)
+    }
+
+    // Its text as a word.
+    fn word(self) -> u64
+        ensures { result ≡ packed (note_name signs self) }
+    {
+        let note = self.note;
+        letter_byte(note.letter) + behind_letter(height(note.accidental))
+    }
+}
+
 impl Note {
     // The note of a letter and a count; a 0 handed in is none.
     pub fn new(letter: u32, count: i32) -> Note
@@ -170,18 +209,13 @@ impl Note {
     pub fn to_semitone(self) -> Result<u32, Refusal>
         ensures { result ≡ semitone_answer self }
     {
-        if !is_note(self) {
-            return Err(Refusal::BadNote);
-        }
-        Ok(pitch(self))
+        Ok(Known::of(self)?.pitch())
     }
 
     pub fn get_note(self, semitones: u32, degree: u32) -> Result<Note, Refusal>
         ensures { result ≡ get_note_answer self semitones degree }
     {
-        if !is_note(self) {
-            return Err(Refusal::BadNote);
-        }
+        let note = Known::of(self)?;
         if semitones > 24 {
             return Err(Refusal::BadMove);
         }
@@ -191,49 +225,39 @@ impl Note {
         if degree > 14 {
             return Err(Refusal::BadMove);
         }
-        Ok(moved(self, semitones, degree))
+        Ok(note.moved(semitones, degree))
     }
 
     // `note`, moved as this one to `to`.
     pub fn transpose(self, note: Note, to: Note) -> Result<Note, Refusal>
         ensures { result ≡ transpose_answer self note to }
     {
-        if !is_note(self) {
-            return Err(Refusal::BadNote);
-        }
-        if !is_note(note) {
-            return Err(Refusal::BadNote);
-        }
-        if !is_note(to) {
-            return Err(Refusal::BadNote);
-        }
-        let target = to.letter;
-        let source = self.letter;
-        let semitones = (pitch(to) + 12 - pitch(self)) % 12;
+        let from = Known::of(self)?;
+        let note = Known::of(note)?;
+        let to = Known::of(to)?;
+        let target = to.note.letter;
+        let source = from.note.letter;
+        let semitones = (to.pitch() + 12 - from.pitch()) % 12;
         let steps = (target + 7 - source) % 7;
-        Ok(moved(note, semitones, steps + 1))
+        Ok(note.moved(semitones, steps + 1))
     }
 
     // Its text as a word; of what is no note, nothing.
     pub fn to_word(self) -> u64
         ensures { result ≡ cond (is_note self) (packed (note_name signs self)) 0 }
     {
-        if !is_note(self) {
+        let Ok(note) = Known::of(self) else {
             return 0;
-        }
-        let letter = self.letter;
-        let accidental = self.accidental;
-        letter_byte(letter) + behind_letter(height(accidental))
+        };
+        note.word()
     }
 
     pub fn text(self, out: &mut [u8]) -> Result<usize, Refusal>
         ensures { Answered (note_reply signs self) out.old result out.new }
     {
-        if !is_note(self) {
-            return Err(Refusal::BadNote);
-        }
-        let mut buffer = [0u8; 8];
-        let length = put(&mut buffer, 0, self.to_word());
-        give(&buffer[..length], out)
+        let note = Known::of(self)?;
+        let mut text = Text::<8>::new();
+        text.push(note.word());
+        text.give(out)
     }
 }

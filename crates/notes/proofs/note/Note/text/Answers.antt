@@ -1,38 +1,27 @@
--- `notes::note::Note::text` meets its contract: the note's word fills a buffer of eight bytes from the front, and its text is given.
-use Rattle.answer.proofs.Kit.{◌≡◌, ap, sym, ◌∙◌, true, arith, length, take, length-take, rules}
-use Rattle.answer.specs.Words.{packed}
-use Rattle.answer.proofs.Rooms.{refused as no}
-use Rattle.answer.proofs.Digits.{put_first}
-use Rattle.answer.proofs.Tests.{refused, admitted}
-use Rattle.notes.specs.Notes.{is_note}
+-- `notes::note::Note::text` meets its contract: the note's word is its text.
+use Rattle.answer.proofs.Kit.{◌≡◌, sym, ap, ◌∙◌, [], length, List, ℕ, Ok, Err, arith, rules, le-leb}
+use Rattle.answer.specs.Words.{packed, text_of}
+use Rattle.answer.specs.Made.{with_word}
+use Rattle.answer.proofs.Rooms.{refused}
+use Rattle.answer.proofs.Texts.{word_text}
 use Rattle.notes.specs.NoteText.{signs, note_name, note_reply}
+use Rattle.notes.specs.declared.note.Note.{Note}
 use Rattle.notes.proofs.Names.{name_short}
+use Rattle.notes.proofs.Known.{known_ok, known_err}
 use Rattle.notes.proofs.note.Note.text.Goals as goal
-use Rattle.notes.proofs.note.Note.text.Goals.{After-put-length, Else-not-is_note}
 
-is_note_lem : (c : Else-not-is_note) → is_note c.args.self ≡ true
-is_note_lem c = admitted _ _ c.is_note.ensures c.if-not-is_note.false-raw
-
--- the text stands in the buffer
-stands : (c : After-put-length)
-    → (c.put-length.result ≡ length (note_name signs c.args.self)) × (take c.put-length.result c.put-length.new.buffer ≡ note_name signs c.args.self)
-stands c =
-    let is = admitted _ _ c.is_note.ensures c.if-not-is_note.false-raw in
-    let word : c.to_word.result ≡ packed (note_name signs c.args.self) = rw is at c.to_word.ensures in
-    put_first (note_name signs c.args.self) (name_short _ is) _ _ _ _ (search rules) word c.put-length.ensures
-
-pub returns-then-not-is_note : goal.returns-then-not-is_note
+pub returns-in_err-note : goal.returns-in_err-note
 unfolding note_reply
-returns-then-not-is_note c = rw (refused _ _ c.is_note.ensures c.if-not-is_note.true-raw) (no _ _)
-
-pub slice_bounds-buffer-end : goal.slice_bounds-buffer-end
-unfolding note_reply
-slice_bounds-buffer-end c = omega (arith, (stands (goal.at.slice_bounds-buffer-end c).After-put-length).0, ap length (stands (goal.at.slice_bounds-buffer-end c).After-put-length).1, length-take c.put-length.result c.put-length.new.buffer)
-
-pub slice_bounds-give-end : goal.slice_bounds-give-end
-unfolding note_reply
-slice_bounds-give-end c = let s = stands (goal.at.slice_bounds-give-end c).After-put-length in s.0 ∙ ap length (sym s.1)
+returns-in_err-note c =
+    let e : c.from_residual.result ≡ Err (c.in_err-note.field-0.0) = search rules in
+    let no = known_err c.args.self _ (sym c.of.ensures ∙ c.in_err-note.was) in
+    rw (no.0, e, no.1) (refused _ _)
 
 pub returns : goal.returns
 unfolding note_reply
-returns c = rw (is_note_lem (goal.at.returns c).Else-not-is_note) (rw (stands (goal.at.returns c).After-put-length).1 at c.give.ensures)
+returns c =
+    let is = known_ok c.args.self _ (sym c.of.ensures ∙ c.in_ok-note.was) in
+    let word : c.word.result ≡ packed (note_name signs c.args.self) = c.word.ensures ∙ ap (λ (n : Note). packed (note_name signs n)) is.1 in
+    let made : c.push.new.self ≡ note_name signs c.args.self =
+    rw (c.new-text.ensures, word) at c.push.ensures ∙ word_text (note_name signs c.args.self) (name_short _ is.0) in
+    rw is.0 (rw made at c.give.ensures)

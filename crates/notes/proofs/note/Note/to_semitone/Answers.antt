@@ -1,17 +1,18 @@
 -- `notes::note::Note::to_semitone` meets its contract.
-use Rattle.answer.proofs.Kit.{ap, Ok}
-use Rattle.answer.proofs.Tests.{refused, admitted}
-use Rattle.notes.specs.Notes.{semitone_answer}
+use Rattle.answer.proofs.Kit.{◌≡◌, sym, ap, ◌∙◌, Ok, Err, rules}
+use Rattle.notes.specs.Notes.{semitone, semitone_answer}
+use Rattle.notes.proofs.Known.{known_ok, known_err}
 use Rattle.notes.proofs.note.Note.to_semitone.Goals as goal
 
-pub returns-then-not-is_note : goal.returns-then-not-is_note
+pub returns-in_err-of : goal.returns-in_err-of
 unfolding semitone_answer
-returns-then-not-is_note c = rw (refused _ _ c.is_note.ensures c.if-not-is_note.true-raw)
-
-pub pitch-requires : goal.pitch-requires
-unfolding semitone_answer
-pitch-requires c = admitted _ _ c.is_note.ensures c.if-not-is_note.false-raw
+returns-in_err-of c =
+    let e : c.from_residual.result ≡ Err (c.in_err-of.field-0.0) = search rules in
+    let no = known_err c.args.self _ (sym c.of.ensures ∙ c.in_err-of.was) in
+    rw no.0 (e ∙ ap Err no.1)
 
 pub returns : goal.returns
 unfolding semitone_answer
-returns c = rw (admitted _ _ c.is_note.ensures c.if-not-is_note.false-raw) (ap Ok c.pitch.ensures.0)
+returns c =
+    let is = known_ok c.args.self _ (sym c.of.ensures ∙ c.in_ok-of.was) in
+    rw is.0 (ap Ok (c.pitch.ensures.0 ∙ ap semitone is.1))

@@ -1,59 +1,48 @@
 -- `notes::note::Note::transpose` meets its contract: the tests say whether all three are notes.
-use Rattle.answer.proofs.Kit.{◌≡◌, ap, ap₂, ◌∙◌, true, ℕ, ◌+◌, ◌-◌, ◌%◌, ◌<◌, arith, Ok}
-use Rattle.answer.proofs.Tests.{refused, admitted}
-use Rattle.notes.specs.Notes.{is_note, get_note, transposed, transpose_answer}
-use Rattle.notes.proofs.Moves.{letter_less}
+use Rattle.answer.proofs.Kit.{◌≡◌, sym, ap, ap₂, ◌∙◌, true, ℕ, ◌+◌, ◌-◌, ◌%◌, arith, rules, Ok, Err}
+use Rattle.notes.specs.Notes.{is_note, semitone, get_note, transposed, transpose_answer}
+use Rattle.notes.specs.declared.note.Note.{Note}
+use Rattle.notes.proofs.Known.{known_ok, known_err}
 use Rattle.notes.proofs.note.Note.transpose.Goals as goal
-use Rattle.notes.proofs.note.Note.transpose.Goals.{Else-not-is_note, Else-not-is_note-2, Else-not-is_note-3}
+use Rattle.notes.proofs.note.Note.transpose.Goals.{In_ok-from, In_ok-note, In_ok-to}
 
 -- what the tests told of the three notes
-from_is_note : (c : Else-not-is_note) → is_note c.args.self ≡ true
-from_is_note c = admitted _ _ c.is_note.ensures c.if-not-is_note.false-raw
+from : (c : In_ok-from) → (is_note c.args.self ≡ true) × (c.in_ok-from.from ≡ c.args.self)
+from c = known_ok c.args.self _ (sym c.of.ensures ∙ c.in_ok-from.was)
 
-note_is_note : (c : Else-not-is_note-2) → is_note c.args.note ≡ true
-note_is_note c = admitted _ _ c.is_note-2.ensures c.if-not-is_note-2.false-raw
+note : (c : In_ok-note) → (is_note c.args.note ≡ true) × (c.in_ok-note.note ≡ c.args.note)
+note c = known_ok c.args.note _ (sym c.of-2.ensures ∙ c.in_ok-note.was)
 
-to_is_note : (c : Else-not-is_note-3) → is_note c.args.to ≡ true
-to_is_note c = admitted _ _ c.is_note-3.ensures c.if-not-is_note-3.false-raw
+to : (c : In_ok-to) → (is_note c.args.to ≡ true) × (c.in_ok-to.to ≡ c.args.to)
+to c = known_ok c.args.to _ (sym c.of-3.ensures ∙ c.in_ok-to.was)
 
-from_letter : (c : Else-not-is_note) → c.args.self.letter < 7
-from_letter c = letter_less c.args.self (from_is_note c)
-
-to_letter : (c : Else-not-is_note-3) → c.args.to.letter < 7
-to_letter c = letter_less c.args.to (to_is_note c)
-
-pub returns-then-not-is_note : goal.returns-then-not-is_note
+pub returns-in_err-from : goal.returns-in_err-from
 unfolding transpose_answer
-returns-then-not-is_note c = rw (refused _ _ c.is_note.ensures c.if-not-is_note.true-raw)
+returns-in_err-from c =
+    let e : c.from_residual.result ≡ Err (c.in_err-from.field-0.0) = search rules in
+    let no = known_err c.args.self _ (sym c.of.ensures ∙ c.in_err-from.was) in
+    rw no.0 (e ∙ ap Err no.1)
 
-pub returns-then-not-is_note-2 : goal.returns-then-not-is_note-2
+pub returns-in_err-note : goal.returns-in_err-note
 unfolding transpose_answer
-returns-then-not-is_note-2 c = simp (from_is_note (goal.at.returns-then-not-is_note-2 c).Else-not-is_note, refused _ _ c.is_note-2.ensures c.if-not-is_note-2.true-raw)
+returns-in_err-note c =
+    let e : c.from_residual-in_err-note.result ≡ Err (c.in_err-note.field-0.0) = search rules in
+    let no = known_err c.args.note _ (sym c.of-2.ensures ∙ c.in_err-note.was) in
+    rw ((from (goal.at.returns-in_err-note c).In_ok-from).0, no.0) (e ∙ ap Err no.1)
 
-pub returns-then-not-is_note-3 : goal.returns-then-not-is_note-3
+pub returns-in_err-to : goal.returns-in_err-to
 unfolding transpose_answer
-returns-then-not-is_note-3 c = simp (from_is_note (goal.at.returns-then-not-is_note-3 c).Else-not-is_note, note_is_note (goal.at.returns-then-not-is_note-3 c).Else-not-is_note-2, refused _ _ c.is_note-3.ensures c.if-not-is_note-3.true-raw)
-
-pub pitch-requires : goal.pitch-requires
-unfolding transpose_answer
-pitch-requires c = to_is_note (goal.at.pitch-requires c).Else-not-is_note-3
-
-pub pitch-requires-2 : goal.pitch-requires-2
-unfolding transpose_answer
-pitch-requires-2 c = from_is_note (goal.at.pitch-requires-2 c).Else-not-is_note
-
-pub overflow_add-steps : goal.overflow_add-steps
-overflow_add-steps c = omega (arith, to_letter (goal.at.overflow_add-steps c).Else-not-is_note-3)
-
-pub overflow_sub-steps : goal.overflow_sub-steps
-overflow_sub-steps c = omega (arith, from_letter (goal.at.overflow_sub-steps c).Else-not-is_note)
-
-pub moved-requires : goal.moved-requires
-moved-requires c = (note_is_note (goal.at.moved-requires c).Else-not-is_note-2, omega arith, omega arith, omega arith)
+returns-in_err-to c =
+    let e : c.from_residual-in_err-to.result ≡ Err (c.in_err-to.field-0.0) = search rules in
+    let no = known_err c.args.to _ (sym c.of-3.ensures ∙ c.in_err-to.was) in
+    rw ((from (goal.at.returns-in_err-to c).In_ok-from).0, (note (goal.at.returns-in_err-to c).In_ok-note).0, no.0) (e ∙ ap Err no.1)
 
 pub returns : goal.returns
 unfolding transposed transpose_answer
-returns c = let a = c.args in
-    let steps = (a.to.letter + 7 - a.self.letter) % 7 in
-    simp (from_is_note (goal.at.returns c).Else-not-is_note, note_is_note (goal.at.returns c).Else-not-is_note-2, to_is_note (goal.at.returns c).Else-not-is_note-3)
-    (ap Ok (c.moved.ensures ∙ ap₂ (λ (t f : ℕ). get_note a.note ((t + 12 - f) % 12) (steps + 1)) c.pitch.ensures.0 c.pitch-2.ensures.0))
+returns c =
+    let f = from (goal.at.returns c).In_ok-from in
+    let n = note (goal.at.returns c).In_ok-note in
+    let t = to (goal.at.returns c).In_ok-to in
+    let same =
+    rw (c.pitch.ensures.0 ∙ ap semitone t.1, c.pitch-2.ensures.0 ∙ ap semitone f.1, n.1, c.to.view_is ∙ t.1, c.from.view_is ∙ f.1) at c.moved.ensures in
+    rw (f.0, n.0, t.0) (ap Ok same)
