@@ -1,7 +1,6 @@
 pub mod Texts
+pub mod Added
 pub mod Puts
 pub mod Described
-pub mod Turn
-pub mod Listed
 pub mod Replied
 pub mod Determined
