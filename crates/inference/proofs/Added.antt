@@ -3,7 +3,6 @@
 --     word_added   a short text's word adds the text
 --     then_adds    a text added behind another makes their sum
 use Rattle.answer.proofs.Kit.{◌≡◌, sym, ap, ◌∙◌, List, [], ◌++◌, append-nil, append_assoc, ℕ, ◌+◌, ◌≤◌, arith, le-leb, length, length-append}
-use Rattle.answer.specs.Words.{packed}
 use Rattle.answer.specs.Made.{with_word}
 use Rattle.answer.proofs.Texts.{word_text}
 use Rattle.inference.specs.private.Adds.{Adds}

@@ -1,4 +1,7 @@
 pub mod Texts
+pub mod Members
+pub mod Turn
+pub mod Listed
 pub mod Added
 pub mod Puts
 pub mod Described

@@ -1,22 +1,22 @@
 // The suffix of a rooted set, as the Rust's `inference/normalize.rs` writes it: quality with modifier, `sus`, then in one pair
 // of parentheses alterations, adds, omits.
-ghost use Rattle.std.specs.Prelude.{◌≡◌, Bool, ◌&&◌, ◌++◌, ◌<◌, ◌^◌, eqb};
+ghost use Rattle.std.specs.Prelude.{◌≡◌, ◌++◌};
 ghost use Rattle.answer.specs.Replies.{Answered};
-ghost use Rattle.intervals.specs.Intervals.{numbered};
 ghost use Rattle.rules.specs.Classes.{intervals_in};
 ghost use Rattle.rules.specs.Suffix.{worded, listed, parenthesized, suffix_reply};
 ghost use Rattle.inference.specs.private.Adds.{Adds};
-ghost use Rattle.inference.specs.private.Prefixes.{prefix_text, part};
+ghost use Rattle.inference.specs.private.Prefixes.{prefix_text, part, is_first_behind};
 ghost use Rattle.inference.specs.Puts.{PutsSuffix, with_suffix};
-ghost use Rattle.inference.specs.private.Described.{head_of, parts_of, Small};
+ghost use Rattle.inference.specs.private.Described.{head_of, parts_of};
 
 use crate::wording::{
-    CLOSE, COMMA, NINE, OPEN, Prefix, SUS, add_where, modifier_word, notation, prefix_word,
+    CLOSE, COMMA, NINE, OPEN, Prefix, SUS, add_where, modifier_word, prefix_word,
 };
 use answer::refusal::Refusal;
 use answer::text::Text;
 use descriptors::descriptor::{Descriptor, describe};
 use descriptors::kinds::kind_of;
+use descriptors::members::Members;
 use intervals::interval::{Interval, MAJOR_SEVENTH};
 
 // The longest that a suffix can be.
@@ -67,7 +67,6 @@ pub fn push_suffix<const N: usize>(text: &mut Text<N>, set: u32)
 }
 
 fn push_described<const N: usize>(text: &mut Text<N>, descriptor: Descriptor)
-    requires { Small descriptor }
     ensures { Adds N text.old (head_of descriptor ++ parenthesized (parts_of descriptor)) text.new }
 {
     push_heading(text, descriptor);
@@ -90,46 +89,44 @@ fn push_heading<const N: usize>(text: &mut Text<N>, descriptor: Descriptor)
 
 // The 9 behind the `6` keeps its place in the numbering: where it is the first, no add carries `add`.
 fn push_parentheses<const N: usize>(text: &mut Text<N>, descriptor: Descriptor)
-    requires { Small descriptor }
     ensures { Adds N text.old (parenthesized (parts_of descriptor)) text.new }
 {
     let adds = descriptor.adds;
     let nine = descriptor.nine;
     let first = add_where((nine == 0) | (adds & MAJOR_SEVENTH != 0));
     let then = add_where(adds == 0);
-    let no_alterations = push_parts(text, true, descriptor.alterations, Prefix::None);
-    let no_adds = push_parts(text, no_alterations, adds ^ nine, first);
-    let no_third = push_parts(text, no_adds, descriptor.third, then);
-    let no_parts = push_parts(text, no_third, descriptor.omits, Prefix::Omit);
+    let no_alterations = push_parts(text, true, Prefix::None, descriptor.alterations);
+    let no_adds = push_parts(text, no_alterations, first, adds ^ nine);
+    let no_third = push_parts(text, no_adds, then, descriptor.third);
+    let no_parts = push_parts(text, no_third, Prefix::Omit, descriptor.omits);
     if !no_parts {
         text.push(CLOSE);
     }
 }
 
-// Adds each interval of a set as a part of the parentheses, and answers whether there is still no part.
-fn push_parts<const N: usize>(text: &mut Text<N>, first: bool, set: u32, prefix: Prefix) -> bool
-    requires { set < 2 ^ 23 }
-    ensures still { result ≡ first && eqb set 0 }
+// Adds each interval of a set as a part of the parentheses, and answers whether the next part is the first.
+fn push_parts<const N: usize>(
+    text: &mut Text<N>,
+    mut first: bool,
+    mut prefix: Prefix,
+    set: u32,
+) -> bool
+    ensures next { result ≡ is_first_behind first (intervals_in set) }
     ensures adds { Adds N text.old (listed first (worded (prefix_text prefix) (intervals_in set))) text.new }
 {
-    let mut opens = first;
-    let mut word = prefix;
-    let mut left = set;
-    while left != 0 {
-        let number = u32::trailing_zeros(left);
-        push_part(text, opens, word, number);
-        opens = false;
-        word = Prefix::None;
-        left -= 1 << number;
+    for interval in Members::of(set) {
+        push_part(text, first, prefix, interval);
+        first = false;
+        prefix = Prefix::None;
     }
-    first & (set == 0)
+    first
 }
 
-// Adds one part: what opens the parentheses, or a comma; the word that it carries; the interval of a number.
-fn push_part<const N: usize>(text: &mut Text<N>, first: bool, prefix: Prefix, number: u32)
-    ensures { Adds N text.old (part first prefix (numbered number)) text.new }
+// Adds one part: what opens the parentheses, or a comma; the word that it carries; the interval.
+fn push_part<const N: usize>(text: &mut Text<N>, first: bool, prefix: Prefix, interval: Interval)
+    ensures { Adds N text.old (part first prefix interval) text.new }
 {
     text.push(if first { OPEN } else { COMMA });
     text.push(prefix_word(prefix));
-    text.push(notation(Interval::from_number(number)));
+    text.push(interval.to_chord_notation());
 }

@@ -1,7 +1,6 @@
 // The texts that a suffix is made of, as words (`answer::word`).
 ghost use Rattle.std.specs.Prelude.{◌≡◌};
 ghost use Rattle.answer.specs.Words.{packed};
-ghost use Rattle.rules.specs.Heading.{or_else};
 ghost use Rattle.inference.specs.private.Prefixes.{prefix_text, add_where};
 ghost use Rattle.inference.specs.private.Described.{modifier_word};
 
@@ -54,13 +53,10 @@ pub(crate) fn modifier_word(shows: bool, without: u64, modifier: Option<Interval
 {
     modifier.map_or(
         without,
-        |interval| if shows { interval.to_chord_notation() } else { NOTHING },
+        |interval| if shows {
+            interval.to_chord_notation()
+        } else {
+            NOTHING
+        },
     )
-}
-
-// How a chord writes an interval, where there is one.
-pub(crate) fn notation(interval: Option<Interval>) -> u64
-    ensures { result ≡ packed (or_else "" interval) }
-{
-    interval.map_or(NOTHING, Interval::to_chord_notation)
 }
