@@ -1,9 +1,8 @@
 -- A suffix put into a buffer, or added to a text, by whether its number is a rooted set and its place has room.
---     described        the suffix, as it is added off the descriptor of a rooted set
---     added, full, unrooted     what is told of a text: a rooted set with room; no room; no set
+--     suffix_added     what the descriptor of a rooted set adds to a text
+--     with_set, without_set     a text with the suffix of a rooted set, and of a number that is none
 --     no_room          no place in a buffer
---     placed           the suffix, made in a text of its own and copied to its place
---     placed_within    which has it
+--     placed           the suffix, made in a text of its own and copied to its place, which has room for it
 --     put_at_lem       what is told of a rooted set with room
 --     one_put          two that are told of one call agree, up to the place behind the suffix
 use borrow.Rule.Slice.PartMut.{put_mid}
@@ -53,9 +52,6 @@ module _ (set : ℕ) (buffer : List ℕ) (at : ℕ) where
     unfolding has_place
     place is = rw (is, le-leb (at + longest + 8) (length buffer) (omega arith))
 
-    pub put_at_lem : is_rooted set ≡ true → (r : ℕ) (left : List ℕ) → PutsSuffix set buffer at r left → Writes buffer at (suffix_of set) r left
-    put_at_lem is r left p = p.put (place is)
-
     no_place : is_rooted set ≡ false → has_place buffer at set ≡ false
     unfolding has_place
     no_place other = rw other
@@ -93,6 +89,9 @@ module _ (set : ℕ) (buffer : List ℕ) (at : ℕ) where
 
     pub placed : (t : List ℕ) → t ≡ with_suffix 72 [] set → (at + length t ≤ length buffer) × PutsSuffix set buffer at (at + length t) (copied t)
     placed = by_set (is_rooted set) refl
+
+  pub put_at_lem : is_rooted set ≡ true → at + 72 ≤ length buffer → (r : ℕ) (left : List ℕ) → PutsSuffix set buffer at r left → Writes buffer at (suffix_of set) r left
+  put_at_lem is room r left p = p.put (place room is)
 
   pub one_put : (r r' : ℕ) (left left' : List ℕ) → PutsSuffix set buffer at r left → PutsSuffix set buffer at r' left' → (r ≡ r') × (take r left ≡ take r' left')
   one_put r r' left left' p q = by_case (has_place buffer at set) refl

@@ -12,8 +12,8 @@ use Rattle.inference.proofs.normalize.push_heading.Goals.{After-push-2, then-des
 
 nine_added : (g : Over) (c : After-push-2 g) → Adds g.row.N c.push.new.self (cond (not (eqb c.args.descriptor.nine 0)) (bytes "9") []) c.if-descriptor-ne0.text
 nine_added g c = elim c.if-descriptor-ne0.branch [
-  | then-descriptor-ne0 w ↦ rw (w.text-is, ne_eqb _ _ w.if-descriptor-ne0.true) (word_added _ _ _ _ _ nine_word w.push-then-descriptor-ne0.ensures)
-  | else-descriptor-ne0 w ↦ rw (w.text-is, eq-eqb _ _ w.if-descriptor-ne0.false) (no_more _ _)
+  | then-descriptor-ne0 w ↦ rw (w.text-is, ne_eqb c.args.descriptor.nine 0 w.if-descriptor-ne0.true) (word_added _ _ _ _ _ nine_word w.push-then-descriptor-ne0.ensures)
+  | else-descriptor-ne0 w ↦ rw (w.text-is, eq-eqb c.args.descriptor.nine 0 w.if-descriptor-ne0.false) (no_more _ _)
 ]
 
 -- up to the modifier
