@@ -1,5 +1,6 @@
 -- `listing::search::search` meets its contract. The loop's invariant: what is found, with what the sets from `set` on give, is the listing.
 use Rattle.answer.proofs.Kit.{◌≡◌, refl, ap, sym, ◌∙◌, List, ◌++◌, append-nil, append_assoc, ℕ, ◌+◌, ◌/◌, ◌%◌, ◌≤◌, arith, length, length-append}
+use Rattle.answer.specs.Made.{with_byte}
 use Rattle.intervals.proofs.Rooted.{is_rooted_lem}
 use Rattle.suffixes.specs.Sets.{matching, sets_of}
 use Rattle.listing.specs.Listing.{in_bytes, listing_of}
@@ -28,8 +29,9 @@ loop-set-preserved c = let h = c.loop-set in
             let high : h.set / 256 % 256 ≡ h.set / 256 = omega arith in
             let sums = sym (length-append h.found (left_of t h.set)) ∙ ap length h.invariant.found in
             let room : length h.found + 2 ≤ 32 = omega (arith, listing_room_lem t, ap length behind) in
-            rw (w.found-is, w.push_byte-then-is_suffix.ensures, w.push_byte.ensures, w.to_be_bytes.ensures, high)
-            (ap (λ (l : List ℕ). l ++ left_of t (h.set + 2)) (two_added h.found (h.set / 256) (h.set % 256) room)
+            rw (w.found-is, w.push_byte-then-is_suffix.ensures, w.push_byte.ensures, w.to_be_bytes.ensures)
+            (ap (λ (b : ℕ). with_byte 32 (with_byte 32 h.found b) (h.set % 256) ++ left_of t (h.set + 2)) high
+            ∙ ap (λ (l : List ℕ). l ++ left_of t (h.set + 2)) (two_added h.found (h.set / 256) (h.set % 256) room)
             ∙ append_assoc h.found (two h.set) (left_of t (h.set + 2)) ∙ ap (λ (l : List ℕ). h.found ++ l) (sym behind) ∙ h.invariant.found)
         | else-is_suffix w ↦ rw w.found-is (ap (λ (l : List ℕ). h.found ++ l) (sym (one_skipped t h.set odd small (sym is ∙ w.if-is_suffix.false))) ∙ h.invariant.found)
       ];
