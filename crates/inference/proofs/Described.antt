@@ -1,11 +1,9 @@
 -- What is written off a descriptor is the suffix of its set.
 --     head_told        what stands before the parentheses
 --     parts_told       what stands in them
---     small_told       its sets are of the 23 intervals
 use Rattle.answer.proofs.Kit.{◌≡◌, refl, ap₂, ◌∙◌, Bool, true, false, not, ◌||◌, List, ◌++◌, ℕ, bit_and, bit_xor, eqb}
 use Rattle.intervals.specs.Sets.{is_rooted}
 use Rattle.intervals.specs.Intervals.{set_of}
-use Rattle.intervals.proofs.Rows.{set_small}
 use Rattle.intervals.specs.declared.interval.Interval.TheVariants.{Ninth}
 use Rattle.rules.specs.Classes.{only, intervals_in, intervals_of}
 use Rattle.rules.specs.Parts.{suffix_quality, last_add}
@@ -16,7 +14,7 @@ use Rattle.rules.proofs.Tested as Tested
 use Rattle.rules.proofs.Told.{alterations_listed, adds_listed, omits_listed}
 use Rattle.descriptors.specs.Descriptors.{descriptor_of}
 use Rattle.inference.specs.private.Prefixes.{prefix_text, add_where}
-use Rattle.inference.specs.private.Described.{head_of, add_parts_of, parts_of, Small}
+use Rattle.inference.specs.private.Described.{head_of, add_parts_of, parts_of}
 
 -- the 9 behind the `6` is there where its set is not empty
 nine_flag : (b : Bool) → not (eqb (set_of (only b Ninth)) 0) ≡ b
@@ -44,14 +42,3 @@ adds_found_lem s =
 pub parts_told : (s : ℕ) → is_rooted s ≡ true → parts_of (descriptor_of s) ≡ parts s
 unfolding descriptor_of parts
 parts_told s is = rw (alterations_listed s is, adds_found_lem s ∙ adds_listed s is, omits_listed s is)
-
-pub small_told : (s : ℕ) → Small (descriptor_of s)
-unfolding descriptor_of
-small_told s =
-    record {
-      alterations = set_small _;
-      adds = set_small _;
-      nine = set_small _;
-      third = set_small _;
-      omits = set_small _;
-    }

@@ -1,7 +1,9 @@
 pub mod Texts
-pub mod Puts
-pub mod Described
+pub mod Members
 pub mod Turn
 pub mod Listed
+pub mod Added
+pub mod Puts
+pub mod Described
 pub mod Replied
 pub mod Determined

@@ -9,7 +9,7 @@ use Rattle.intervals.specs.declared.interval.Interval.{Interval}
 use Rattle.qualities.specs.declared.quality.ChordQuality.{ChordQuality}
 use Rattle.qualities.specs.declared.quality.ChordQuality.TheVariants.{Maj, Maj6, Maj7, Dominant7, Mi, Mi6, Mi7, MiMaj7, Augmented, Diminished, Diminished7, Power, Bass}
 use Rattle.rules.specs.Stack.{is_one_of}
-use Rattle.rules.specs.Heading.{wording, or_else, shows_modifier, unmodified, modified}
+use Rattle.rules.specs.Heading.{wording, shows_modifier, unmodified, modified}
 use Rattle.inference.specs.declared.wording.Prefix.{Prefix}
 use Rattle.inference.specs.declared.wording.Prefix.TheVariants as Prefixes
 use Rattle.inference.specs.private.Prefixes.{prefix_text}
@@ -35,13 +35,13 @@ wording_short Diminished7 = tt
 wording_short Power = tt
 wording_short Bass = tt
 
--- a word that a buffer takes, and its text
+-- a word, and the text that it holds
 pub record IsWord (t : List ℕ) (w : ℕ) : Type 0 where
   pub short : T (is_short t)
   pub is : w ≡ packed t
 
 -- one word or another
-pub either_word : (b : Bool) {t u : List ℕ} {w v : ℕ} → IsWord t w → IsWord u v → IsWord (cond b t u) (cond b w v)
+either_word : (b : Bool) {t u : List ℕ} {w v : ℕ} → IsWord t w → IsWord u v → IsWord (cond b t u) (cond b w v)
 either_word true p q = p
 either_word false p q = q
 
@@ -49,21 +49,25 @@ no_word : IsWord [] 0
 unfolding are_bytes is_short low packed
 no_word = record { short = tt; is = refl }
 
-pub opening_word : (b : Bool) → IsWord (cond b (bytes "(") (bytes ",")) (cond b 0x0100000000000028 0x010000000000002c)
+pub open_word : IsWord (bytes "(") 0x0100000000000028
 unfolding bytes are_bytes is_short low packed
-opening_word b = either_word b record { short = tt; is = refl } record { short = tt; is = refl }
+open_word = record { short = tt; is = refl }
 
-pub closing_word : (b : Bool) → IsWord (cond b [] (bytes ")")) (cond b 0 0x0100000000000029)
+pub comma_word : IsWord (bytes ",") 0x010000000000002c
 unfolding bytes are_bytes is_short low packed
-closing_word b = either_word b no_word record { short = tt; is = refl }
+comma_word = record { short = tt; is = refl }
 
-pub nine_word : (b : Bool) → IsWord (cond b (bytes "9") []) (cond b 0x0100000000000039 0)
+pub close_word : IsWord (bytes ")") 0x0100000000000029
 unfolding bytes are_bytes is_short low packed
-nine_word b = either_word b record { short = tt; is = refl } no_word
+close_word = record { short = tt; is = refl }
 
-pub sus_word : (b : Bool) → IsWord (cond b (bytes "sus") []) (cond b 0x0300000000737573 0)
+pub nine_word : IsWord (bytes "9") 0x0100000000000039
 unfolding bytes are_bytes is_short low packed
-sus_word b = either_word b record { short = tt; is = refl } no_word
+nine_word = record { short = tt; is = refl }
+
+pub sus_word : IsWord (bytes "sus") 0x0300000000737573
+unfolding bytes are_bytes is_short low packed
+sus_word = record { short = tt; is = refl }
 
 -- a modifier's word by the row of its quality
 pub modifier_word_lem : (q : ChordQuality) (shows : Bool) (without : ℕ) (m : Option Interval) → shows ≡ shows_modifier q → without ≡ packed (unmodified q)
@@ -75,11 +79,6 @@ modifier_word_lem q shows without None e f = record { short = either_short (is_o
     either_short : (b : Bool) → T (is_short (cond b (bytes "7") []))
     either_short true = tt
     either_short false = tt
-
-pub or_nothing_short : (m : Option Interval) → T (is_short (or_else "" m))
-unfolding bytes are_bytes is_short
-or_nothing_short (Some i) = notation_short i
-or_nothing_short None = tt
 
 pub prefix_short : (w : Prefix) → T (is_short (prefix_text w))
 unfolding bytes are_bytes is_short

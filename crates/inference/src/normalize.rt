@@ -1,26 +1,23 @@
 // The suffix of a rooted set, as the Rust's `inference/normalize.rs` writes it: quality with modifier, `sus`, then in one pair
 // of parentheses alterations, adds, omits.
-ghost use Rattle.std.specs.Prelude.{◌++◌, ◌+◌, ◌≤◌, ◌<◌, ◌^◌, eqb, length};
+ghost use Rattle.std.specs.Prelude.{◌≡◌, ◌++◌};
 ghost use Rattle.answer.specs.Replies.{Answered};
-ghost use Rattle.answer.specs.Written.{Writes};
-ghost use Rattle.intervals.specs.Intervals.{numbered};
 ghost use Rattle.rules.specs.Classes.{intervals_in};
 ghost use Rattle.rules.specs.Suffix.{worded, listed, parenthesized, suffix_reply};
-ghost use Rattle.inference.specs.private.Prefixes.{prefix_text, part};
-ghost use Rattle.inference.specs.Puts.{PutsSuffix};
-ghost use Rattle.inference.specs.private.Described.{head_of, parts_of, Small};
+ghost use Rattle.inference.specs.private.Adds.{Adds};
+ghost use Rattle.inference.specs.private.Prefixes.{prefix_text, part, is_first_behind};
+ghost use Rattle.inference.specs.Puts.{PutsSuffix, with_suffix};
+ghost use Rattle.inference.specs.private.Described.{head_of, parts_of};
 
 use crate::wording::{
-    CLOSE, COMMA, NINE, NOTHING, OPEN, Prefix, SUS, add_where, either, modifier_word, notation,
-    prefix_word,
+    CLOSE, COMMA, NINE, OPEN, Prefix, SUS, add_where, modifier_word, prefix_word,
 };
-use answer::output::give;
 use answer::refusal::Refusal;
-use answer::word::put;
+use answer::text::Text;
 use descriptors::descriptor::{Descriptor, describe};
 use descriptors::kinds::kind_of;
+use descriptors::members::Members;
 use intervals::interval::{Interval, MAJOR_SEVENTH};
-use intervals::set::is_rooted;
 
 // The longest that a suffix can be.
 const LONGEST: usize = 64;
@@ -32,101 +29,104 @@ pub const ROOM: usize = LONGEST + 8;
 pub fn suffix(set: u32, out: &mut [u8]) -> Result<usize, Refusal>
     ensures { Answered (suffix_reply set) out.old result out.new }
 {
-    if !is_rooted(set) {
-        return Err(Refusal::NotASet);
-    }
-    let mut buffer = [0u8; ROOM];
-    let end = put_suffix(&mut buffer, 0, set);
-    give(&buffer[..end], out)
+    let descriptor = describe(set)?;
+    let mut text = Text::<ROOM>::new();
+    push_described(&mut text, descriptor);
+    text.give(out)
 }
 
 // Writes the suffix of a rooted set at a place of a buffer, and answers the place behind it: what comes next goes there. Where the number is
 // no rooted set, or the longest suffix and a word's eight bytes have no room, nothing is written and the place stays. What stands behind the
 // place is the writer's own.
+// It has a buffer with a place beside it, and no `Text`, because `PutsSuffix` may not change.
 pub fn put_suffix(buffer: &mut [u8], at: usize, set: u32) -> usize
     ensures { PutsSuffix set buffer.old at result buffer.new }
 {
-    if buffer.len() < ROOM {
+    if buffer.len() < ROOM || buffer.len() - ROOM < at {
         return at;
     }
-    if buffer.len() - ROOM < at {
-        return at;
+    let mut text = Text::<ROOM>::new();
+    push_suffix(&mut text, set);
+    let suffix = text.as_slice();
+    let end = at + suffix.len();
+    buffer[at..end].copy_from_slice(suffix);
+    end
+}
+
+// Adds the suffix of a rooted set to a text. Where the number is no rooted set, or the longest suffix and a word's eight bytes have no room,
+// the text stays.
+pub fn push_suffix<const N: usize>(text: &mut Text<N>, set: u32)
+    ensures { text.new ≡ with_suffix N text.old set }
+{
+    if text.as_slice().len() + ROOM > N {
+        return;
     }
-    match describe(set) {
-        Ok(descriptor) => put_described(buffer, at, descriptor),
-        Err(_) => at,
+    if let Ok(descriptor) = describe(set) {
+        push_described(text, descriptor);
     }
 }
 
-fn put_described(buffer: &mut [u8], at: usize, descriptor: Descriptor) -> usize
-    requires { Small descriptor × (at + length (head_of descriptor) + length (parenthesized (parts_of descriptor)) + 8 ≤ length buffer.old) }
-    ensures { Writes buffer.old at (head_of descriptor ++ parenthesized (parts_of descriptor)) result buffer.new }
+fn push_described<const N: usize>(text: &mut Text<N>, descriptor: Descriptor)
+    ensures { Adds N text.old (head_of descriptor ++ parenthesized (parts_of descriptor)) text.new }
 {
-    let start = put_heading(buffer, at, descriptor);
-    put_parentheses(buffer, start, descriptor)
+    push_heading(text, descriptor);
+    push_parentheses(text, descriptor);
 }
 
-// The 9 behind the `6` is decided before anything is written.
-fn put_heading(buffer: &mut [u8], at: usize, descriptor: Descriptor) -> usize
-    requires { at + length (head_of descriptor) + 8 ≤ length buffer.old }
-    ensures { Writes buffer.old at (head_of descriptor) result buffer.new }
+fn push_heading<const N: usize>(text: &mut Text<N>, descriptor: Descriptor)
+    ensures { Adds N text.old (head_of descriptor) text.new }
 {
-    let quality = descriptor.quality;
-    let modifier = descriptor.modifier;
-    let kind = kind_of(quality);
-    let after_quality = put(buffer, at, kind.0);
-    let after_nine = put(
-        buffer,
-        after_quality,
-        either(descriptor.nine != 0, NINE, NOTHING),
-    );
-    let after_modifier = put(buffer, after_nine, modifier_word(kind.1, kind.2, modifier));
-    put(buffer, after_modifier, either(descriptor.sus, SUS, NOTHING))
+    let kind = kind_of(descriptor.quality);
+    text.push(kind.0);
+    if descriptor.nine != 0 {
+        text.push(NINE);
+    }
+    text.push(modifier_word(kind.1, kind.2, descriptor.modifier));
+    if descriptor.sus {
+        text.push(SUS);
+    }
 }
 
 // The 9 behind the `6` keeps its place in the numbering: where it is the first, no add carries `add`.
-fn put_parentheses(buffer: &mut [u8], start: usize, descriptor: Descriptor) -> usize
-    requires { Small descriptor × (start + length (parenthesized (parts_of descriptor)) + 8 ≤ length buffer.old) }
-    ensures { Writes buffer.old start (parenthesized (parts_of descriptor)) result buffer.new }
+fn push_parentheses<const N: usize>(text: &mut Text<N>, descriptor: Descriptor)
+    ensures { Adds N text.old (parenthesized (parts_of descriptor)) text.new }
 {
     let adds = descriptor.adds;
     let nine = descriptor.nine;
     let first = add_where((nine == 0) | (adds & MAJOR_SEVENTH != 0));
     let then = add_where(adds == 0);
-    let after_alterations = put_parts(buffer, start, start, descriptor.alterations, Prefix::None);
-    let after_adds = put_parts(buffer, after_alterations, start, adds ^ nine, first);
-    let after_third = put_parts(buffer, after_adds, start, descriptor.third, then);
-    let after_omits = put_parts(buffer, after_third, start, descriptor.omits, Prefix::Omit);
-    put(
-        buffer,
-        after_omits,
-        either(after_omits == start, NOTHING, CLOSE),
-    )
-}
-
-// Writes each interval of a set as a part of the parentheses, which begin at `start`: a part there opens them.
-fn put_parts(buffer: &mut [u8], from: usize, start: usize, set: u32, first: Prefix) -> usize
-    requires { (set < 2 ^ 23) × (start ≤ from) × (from + length (listed (eqb from start) (worded (prefix_text first) (intervals_in set))) + 8 ≤ length buffer.old) }
-    ensures { Writes buffer.old from (listed (eqb from start) (worded (prefix_text first) (intervals_in set))) result buffer.new }
-{
-    let mut at = from;
-    let mut left = set;
-    let mut prefix = first;
-    while left != 0 {
-        let number = u32::trailing_zeros(left);
-        at = put_part(buffer, at, start, number, prefix);
-        prefix = Prefix::None;
-        left -= 1 << number;
+    let no_alterations = push_parts(text, true, Prefix::None, descriptor.alterations);
+    let no_adds = push_parts(text, no_alterations, first, adds ^ nine);
+    let no_third = push_parts(text, no_adds, then, descriptor.third);
+    let no_parts = push_parts(text, no_third, Prefix::Omit, descriptor.omits);
+    if !no_parts {
+        text.push(CLOSE);
     }
-    at
 }
 
-// Writes one part: what opens the parentheses, or a comma; the word that it carries; the interval of a number.
-fn put_part(buffer: &mut [u8], at: usize, start: usize, number: u32, prefix: Prefix) -> usize
-    requires { at + length (part (eqb at start) prefix (numbered number)) + 8 ≤ length buffer.old }
-    ensures { Writes buffer.old at (part (eqb at start) prefix (numbered number)) result buffer.new }
+// Adds each interval of a set as a part of the parentheses, and answers whether the next part is the first.
+fn push_parts<const N: usize>(
+    text: &mut Text<N>,
+    mut first: bool,
+    mut prefix: Prefix,
+    set: u32,
+) -> bool
+    ensures next { result ≡ is_first_behind first (intervals_in set) }
+    ensures adds { Adds N text.old (listed first (worded (prefix_text prefix) (intervals_in set))) text.new }
 {
-    let after_opening = put(buffer, at, either(at == start, OPEN, COMMA));
-    let after_word = put(buffer, after_opening, prefix_word(prefix));
-    put(buffer, after_word, notation(Interval::from_number(number)))
+    for interval in Members::of(set) {
+        push_part(text, first, prefix, interval);
+        first = false;
+        prefix = Prefix::None;
+    }
+    first
+}
+
+// Adds one part: what opens the parentheses, or a comma; the word that it carries; the interval.
+fn push_part<const N: usize>(text: &mut Text<N>, first: bool, prefix: Prefix, interval: Interval)
+    ensures { Adds N text.old (part first prefix interval) text.new }
+{
+    text.push(if first { OPEN } else { COMMA });
+    text.push(prefix_word(prefix));
+    text.push(interval.to_chord_notation());
 }

@@ -1,7 +1,6 @@
 // The texts that a suffix is made of, as words (`answer::word`).
-ghost use Rattle.std.specs.Prelude.{◌≡◌, cond};
+ghost use Rattle.std.specs.Prelude.{◌≡◌};
 ghost use Rattle.answer.specs.Words.{packed};
-ghost use Rattle.rules.specs.Heading.{or_else};
 ghost use Rattle.inference.specs.private.Prefixes.{prefix_text, add_where};
 ghost use Rattle.inference.specs.private.Described.{modifier_word};
 
@@ -48,29 +47,16 @@ pub(crate) fn prefix_word(prefix: Prefix) -> u64
     }
 }
 
-// One word or another.
-pub(crate) fn either(first: bool, word: u64, other: u64) -> u64
-    ensures { result ≡ cond first word other }
-{
-    if first { word } else { other }
-}
-
 // A modifier where a quality shows one, or its word without one.
 pub(crate) fn modifier_word(shows: bool, without: u64, modifier: Option<Interval>) -> u64
     ensures { result ≡ modifier_word shows without modifier }
 {
-    match modifier {
-        Some(interval) => either(shows, interval.to_chord_notation(), NOTHING),
-        None => without,
-    }
-}
-
-// How a chord writes an interval, where there is one.
-pub(crate) fn notation(interval: Option<Interval>) -> u64
-    ensures { result ≡ packed (or_else "" interval) }
-{
-    match interval {
-        Some(interval) => interval.to_chord_notation(),
-        None => NOTHING,
-    }
+    modifier.map_or(
+        without,
+        |interval| if shows {
+            interval.to_chord_notation()
+        } else {
+            NOTHING
+        },
+    )
 }

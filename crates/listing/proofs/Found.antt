@@ -1,48 +1,41 @@
--- The search on its way: the sets before the one at i are behind it, and those from there on are left.
---     left_of        what is left to write
---     one_found, one_skipped     the set at i is one of the text's, or is not
---     has_room_lem   a set that is found has its two bytes of room
---     puts_set       a set's two bytes, as the code stores them
-use Rattle.answer.proofs.Kit.{◌≡◌, refl, ap, subst, ◌∙◌, Bool, true, false, cond, List, [], ◌∷◌, ◌++◌, ℕ, suc, ◌+◌, ◌-◌, ◌*◌, ◌/◌, ◌%◌, ◌<◌, ◌≤◌, unary_clauses, arith, length, set, sets}
+-- The search on its way: the sets before the one at hand are behind it, and those from there on are left.
+--     left_of        what is left to add
+--     one_found, one_skipped     the set at hand is one of the text's, or is not
+--     two_added      a set's two bytes, as the code adds them
+use Rattle.answer.proofs.Kit.{◌≡◌, refl, ap, ◌∙◌, Bool, true, false, cond, List, [], ◌∷◌, ◌++◌, ℕ, suc, ◌+◌, ◌-◌, ◌/◌, ◌%◌, ◌<◌, ◌≤◌, arith, length, length-append, append_assoc, lt-ltb}
 use Rattle.answer.specs.Words.{same}
-use Rattle.answer.specs.Written.{Writes}
-use Rattle.answer.proofs.Writing.{stored, SoFar, so_far_end}
+use Rattle.answer.specs.Made.{with_byte}
 use Rattle.rules.specs.Suffix.{suffix_of}
 use Rattle.suffixes.specs.Sets.{matching}
-use Rattle.listing.specs.Listing.{in_bytes, listing_of}
-use Rattle.listing.proofs.Laws.{listing_room_lem}
+use Rattle.listing.specs.Listing.{in_bytes}
 
 abbrev pub left_of : List ℕ → ℕ → List ℕ
-left_of t i = in_bytes (matching t (2048 - i) (2 * i + 1))
+left_of t s = in_bytes (matching t ((4097 - s) / 2) s)
 
 -- a set in two bytes
 abbrev pub two : ℕ → List ℕ
 two s = s / 256 ∷ s % 256 ∷ []
 
-module _ (t : List ℕ) (i : ℕ) (more : i < 2048) where
-  step : (b : Bool) → same t (suffix_of (2 * i + 1)) ≡ b → left_of t i ≡ cond b (two (2 * i + 1)) [] ++ left_of t (i + 1)
+module _ (t : List ℕ) (s : ℕ) (odd : s % 2 ≡ 1) (more : s < 4096) where
+  step : (b : Bool) → same t (suffix_of s) ≡ b → left_of t s ≡ cond b (two s) [] ++ left_of t (s + 2)
   unfolding matching in_bytes
   step b e =
-      let one : 2048 - i ≡ suc (2048 - (i + 1)) = omega arith in
-      let next : 2 * i + 1 + 2 ≡ 2 * (i + 1) + 1 = omega arith in
-      let later = matching t (2048 - (i + 1)) in
-      ap (λ (n : ℕ). in_bytes (matching t n (2 * i + 1))) one
-      ∙ ap (λ (k : ℕ). in_bytes (cond (same t (suffix_of (2 * i + 1))) ((2 * i + 1) ∷ later k) (later k))) next
-      ∙ ap (λ (b : Bool). in_bytes (cond b ((2 * i + 1) ∷ later (2 * (i + 1) + 1)) (later (2 * (i + 1) + 1)))) e ∙ by_case b
+      let one : (4097 - s) / 2 ≡ suc ((4097 - (s + 2)) / 2) = omega arith in
+      let later = matching t ((4097 - (s + 2)) / 2) (s + 2) in
+      ap (λ (n : ℕ). in_bytes (matching t n s)) one ∙ ap (λ (b : Bool). in_bytes (cond b (s ∷ later) later)) e ∙ by_case b
     where
-      by_case : (b : Bool) → in_bytes (cond b ((2 * i + 1) ∷ matching t (2048 - (i + 1)) (2 * (i + 1) + 1)) (matching t (2048 - (i + 1)) (2 * (i + 1) + 1))) ≡ cond b (two (2 * i + 1)) [] ++ left_of t (i + 1)
+      by_case : (b : Bool) → in_bytes (cond b (s ∷ matching t ((4097 - (s + 2)) / 2) (s + 2)) (matching t ((4097 - (s + 2)) / 2) (s + 2))) ≡ cond b (two s) [] ++ left_of t (s + 2)
       by_case true = refl
       by_case false = refl
 
-  pub one_found : same t (suffix_of (2 * i + 1)) ≡ true → left_of t i ≡ two (2 * i + 1) ++ left_of t (i + 1)
+  pub one_found : same t (suffix_of s) ≡ true → left_of t s ≡ two s ++ left_of t (s + 2)
   one_found is = step true is
 
-  pub one_skipped : same t (suffix_of (2 * i + 1)) ≡ false → left_of t i ≡ left_of t (i + 1)
+  pub one_skipped : same t (suffix_of s) ≡ false → left_of t s ≡ left_of t (s + 2)
   one_skipped isn = step false isn
 
-  pub has_room_lem : {l₀ l : List ℕ} {used : ℕ} → SoFar l₀ 0 (listing_of t) l used (left_of t i) → 32 ≤ length l₀ → same t (suffix_of (2 * i + 1)) ≡ true → used + 2 ≤ length l
-  has_room_lem s room is = omega (arith, so_far_end s, listing_room_lem t, ap length (one_found is), s.puts.same)
-
-pub puts_set : (l : List ℕ) (at a b : ℕ) → at + 2 ≤ length l → Writes l at (a ∷ b ∷ []) (at + 2) (set (set l at a) (at + 1) b)
-puts_set l at a b room =
-    subst (Writes l at (a ∷ b ∷ []) (at + 2)) (let two : sets l at (a ∷ b ∷ []) ≡ set (set l at a) (at + 1) b = simp unary_clauses in two) (stored (a ∷ b ∷ []) l at room)
+pub two_added : (t : List ℕ) (a b : ℕ) → length t + 2 ≤ 32 → with_byte 32 (with_byte 32 t a) b ≡ t ++ a ∷ b ∷ []
+two_added t a b room =
+    let one : length t < 32 = omega arith in
+    let other : length (t ++ a ∷ []) < 32 = rw length-append (omega arith) in
+    rw (lt-ltb (length t) 32 one, lt-ltb (length (t ++ a ∷ [])) 32 other) (append_assoc t (a ∷ []) (b ∷ []))

@@ -1,18 +1,17 @@
 // The search: the suffix of each rooted set is made once, and compared with the text.
-ghost use Rattle.std.specs.Prelude.{◌≡◌, true, [], ◌∷◌, ◌+◌, ◌/◌, ◌%◌, ◌<◌, ◌≤◌, length};
+ghost use Rattle.std.specs.Prelude.{◌≡◌, true};
 ghost use Rattle.answer.specs.Replies.{text, Answered};
 ghost use Rattle.answer.specs.Words.{same};
-ghost use Rattle.answer.specs.Written.{Writes};
 ghost use Rattle.intervals.specs.Sets.{is_rooted};
 ghost use Rattle.rules.specs.Suffix.{suffix_of};
 ghost use Rattle.listing.specs.Listing.{listing_of};
 
-use answer::output::give;
 use answer::refusal::Refusal;
-use inference::normalize::{ROOM as SUFFIX_ROOM, put_suffix};
+use answer::text::Text;
+use inference::normalize::{ROOM as SUFFIX_ROOM, push_suffix};
 
-// The rooted sets.
-const SETS: u32 = 2048;
+// Above the rooted sets, which are the odd numbers.
+const SETS: u16 = 4096;
 
 // No suffix has more bytes.
 const LONGEST: usize = 27;
@@ -27,58 +26,28 @@ pub fn listing(name: &[u8], out: &mut [u8]) -> Result<usize, Refusal>
     if name.len() > LONGEST {
         return Ok(0);
     }
-    let mut found = [0u8; ROOM];
-    let used = search(name, &mut found);
-    give(&found[..used], out)
+    search(name).give(out)
 }
 
-// Writes the sets of a text to the front of `found`.
-fn search(name: &[u8], found: &mut [u8]) -> usize
-    requires { 32 ≤ length found.old }
-    ensures { Writes found.old 0 (listing_of name.now) result found.new }
+fn search(name: &[u8]) -> Text<ROOM>
+    ensures { result ≡ listing_of name.now }
 {
-    let mut used = 0;
-    let mut i: u32 = 0;
-    while i < SETS {
-        let set = 2 * i + 1;
-        if is_suffix(name, set) {
-            used = put_set(found, used, set);
+    let mut found = Text::new();
+    for set in (1..SETS).step_by(2) {
+        if is_suffix(name, u32::from(set)) {
+            let [high, low] = set.to_be_bytes();
+            found.push_byte(high);
+            found.push_byte(low);
         }
-        i += 1;
     }
-    used
+    found
 }
 
 fn is_suffix(name: &[u8], set: u32) -> bool
     requires { is_rooted set ≡ true }
     ensures { result ≡ same name.now (suffix_of set) }
 {
-    let mut buffer = [0u8; SUFFIX_ROOM];
-    let end = put_suffix(&mut buffer, 0, set);
-    is_same(name, &buffer[..end])
-}
-
-fn is_same(text: &[u8], other: &[u8]) -> bool
-    ensures { result ≡ same text.now other.now }
-{
-    if text.len() != other.len() {
-        return false;
-    }
-    let mut i = 0;
-    while i < text.len() {
-        if text[i] != other[i] {
-            return false;
-        }
-        i += 1;
-    }
-    true
-}
-
-fn put_set(found: &mut [u8], at: usize, set: u32) -> usize
-    requires { (set < 4096) × (at + 2 ≤ length found.old) }
-    ensures { Writes found.old at (set / 256 ∷ set % 256 ∷ []) result found.new }
-{
-    found[at] = (set / 256) as u8;
-    found[at + 1] = (set % 256) as u8;
-    at + 2
+    let mut suffix = Text::<SUFFIX_ROOM>::new();
+    push_suffix(&mut suffix, set);
+    name == suffix.as_slice()
 }

@@ -1,6 +1,6 @@
 -- A suffix as it is written off a descriptor.
 use Rattle.intervals.specs.declared.interval.Interval.{Interval}
-use Rattle.std.specs.Prelude.{Bool, cond, not, ◌||◌, List, [], ◌++◌, ℕ, ◌^◌, ◌<◌, eqb, Option, Some, None}
+use Rattle.std.specs.Prelude.{Bool, cond, not, ◌||◌, List, [], ◌++◌, ℕ, eqb, Option, Some, None}
 use Rattle.std.specs.Int.Bits.{bit_and, bit_xor}
 use Rattle.answer.specs.Words.{bytes, packed}
 use Rattle.intervals.specs.Intervals.{notation_of}
@@ -30,11 +30,3 @@ add_parts_of d =
 -- all that stands in them
 abbrev pub parts_of : Descriptor → List (List ℕ)
 parts_of d = worded [] (intervals_in d.alterations) ++ add_parts_of d ++ worded (bytes "omit") (intervals_in d.omits)
-
--- its sets are of the 23 intervals
-pub record Small (d : Descriptor) : Type 0 where
-  pub alterations : d.alterations < 2 ^ 23
-  pub adds : d.adds < 2 ^ 23
-  pub nine : d.nine < 2 ^ 23
-  pub third : d.third < 2 ^ 23
-  pub omits : d.omits < 2 ^ 23

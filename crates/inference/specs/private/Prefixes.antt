@@ -1,8 +1,8 @@
 -- What stands before the first of some parts, and a part of the parentheses.
-use Rattle.intervals.specs.declared.interval.Interval.{Interval}
-use Rattle.std.specs.Prelude.{Bool, cond, List, [], ◌++◌, ℕ, Option}
+use Rattle.std.specs.Prelude.{Bool, false, cond, List, [], ◌∷◌, ◌++◌, ℕ}
 use Rattle.answer.specs.Words.{bytes}
-use Rattle.rules.specs.Heading.{or_else}
+use Rattle.intervals.specs.Intervals.{notation_of}
+use Rattle.intervals.specs.declared.interval.Interval.{Interval}
 use Rattle.inference.specs.declared.wording.Prefix.{Prefix}
 use Rattle.inference.specs.declared.wording.Prefix.TheVariants.{None, Add, Omit}
 
@@ -17,5 +17,10 @@ abbrev pub add_where : Bool → Prefix
 add_where first = cond first Add None
 
 -- a part of the parentheses with what stands before it, the first or a later one
-abbrev pub part : Bool → Prefix → Option Interval → List ℕ
-part first prefix interval = cond first (bytes "(") (bytes ",") ++ prefix_text prefix ++ or_else "" interval
+abbrev pub part : Bool → Prefix → Interval → List ℕ
+part first prefix interval = cond first (bytes "(") (bytes ",") ++ prefix_text prefix ++ notation_of interval
+
+-- behind some parts the next is the first, where they are none
+abbrev pub is_first_behind : {A : Type 0} → Bool → List A → Bool
+is_first_behind first [] = first
+is_first_behind first (x ∷ more) = false
