@@ -39,7 +39,8 @@ impl<const N: usize> Text<N> {
     pub fn push(&mut self, word: u64)
         ensures { self.new ≡ with_word N self.old word }
     {
-        self.length = put(&mut self.bytes, self.length, word).min(self.length + 8);
+        let at = self.length;
+        self.length = put(&mut self.bytes, at, word).min(at + 8);
     }
 
     // Adds a byte; where it has no room, the text stays.
