@@ -12,7 +12,7 @@ use Rattle.rules.specs.Stack.{is_one_of}
 use Rattle.rules.specs.Heading.{wording, shows_modifier, unmodified, modified}
 use Rattle.inference.specs.declared.wording.Prefix.{Prefix}
 use Rattle.inference.specs.declared.wording.Prefix.TheVariants as Prefixes
-use Rattle.inference.specs.private.Prefixes.{prefix_text}
+use Rattle.inference.specs.private.Prefixes.{before_part}
 use Rattle.inference.specs.private.Described.{modifier_word}
 
 pub notation_short : (i : Interval) → T (is_short (notation_of i))
@@ -49,14 +49,6 @@ no_word : IsWord [] 0
 unfolding are_bytes is_short low packed
 no_word = record { short = tt; is = refl }
 
-pub open_word : IsWord (bytes "(") 0x0100000000000028
-unfolding bytes are_bytes is_short low packed
-open_word = record { short = tt; is = refl }
-
-pub comma_word : IsWord (bytes ",") 0x010000000000002c
-unfolding bytes are_bytes is_short low packed
-comma_word = record { short = tt; is = refl }
-
 pub close_word : IsWord (bytes ")") 0x0100000000000029
 unfolding bytes are_bytes is_short low packed
 close_word = record { short = tt; is = refl }
@@ -80,8 +72,11 @@ modifier_word_lem q shows without None e f = record { short = either_short (is_o
     either_short true = tt
     either_short false = tt
 
-pub prefix_short : (w : Prefix) → T (is_short (prefix_text w))
+pub before_short : (first : Bool) (prefix : Prefix) → T (is_short (before_part first prefix))
 unfolding bytes are_bytes is_short
-prefix_short Prefixes.None = tt
-prefix_short Prefixes.Add = tt
-prefix_short Prefixes.Omit = tt
+before_short true Prefixes.None = tt
+before_short true Prefixes.Add = tt
+before_short true Prefixes.Omit = tt
+before_short false Prefixes.None = tt
+before_short false Prefixes.Add = tt
+before_short false Prefixes.Omit = tt

@@ -9,9 +9,7 @@ ghost use Rattle.inference.specs.private.Prefixes.{prefix_text, part, is_first_b
 ghost use Rattle.inference.specs.Puts.{PutsSuffix, with_suffix};
 ghost use Rattle.inference.specs.private.Described.{head_of, parts_of};
 
-use crate::wording::{
-    CLOSE, COMMA, NINE, OPEN, Prefix, SUS, add_where, modifier_word, prefix_word,
-};
+use crate::wording::{CLOSE, NINE, Prefix, SUS, add_where, before_part, modifier_word};
 use answer::refusal::Refusal;
 use answer::text::Text;
 use descriptors::descriptor::{Descriptor, describe};
@@ -126,7 +124,6 @@ fn push_parts<const N: usize>(
 fn push_part<const N: usize>(text: &mut Text<N>, first: bool, prefix: Prefix, interval: Interval)
     ensures { Adds N text.old (part first prefix interval) text.new }
 {
-    text.push(if first { OPEN } else { COMMA });
-    text.push(prefix_word(prefix));
+    text.push(before_part(first, prefix));
     text.push(interval.to_chord_notation());
 }

@@ -1,24 +1,16 @@
 // The texts that a suffix is made of, as words (`answer::word`).
 ghost use Rattle.std.specs.Prelude.{◌≡◌};
 ghost use Rattle.answer.specs.Words.{packed};
-ghost use Rattle.inference.specs.private.Prefixes.{prefix_text, add_where};
+ghost use Rattle.inference.specs.private.Prefixes.{add_where, before_part};
 ghost use Rattle.inference.specs.private.Described.{modifier_word};
 
 use intervals::interval::Interval;
 
-pub(crate) const NOTHING: u64 = 0;
-
-pub(crate) const OPEN: u64 = 0x0100000000000028; // (
-
-pub(crate) const COMMA: u64 = 0x010000000000002c; // ,
+const NOTHING: u64 = 0;
 
 pub(crate) const CLOSE: u64 = 0x0100000000000029; // )
 
 pub(crate) const SUS: u64 = 0x0300000000737573; // sus
-
-const ADD: u64 = 0x0300000000646461; // add
-
-const OMIT: u64 = 0x0400000074696d6f; // omit
 
 pub(crate) const NINE: u64 = 0x0100000000000039; // 9
 
@@ -37,13 +29,18 @@ pub(crate) fn add_where(first: bool) -> Prefix
     if first { Prefix::Add } else { Prefix::None }
 }
 
-pub(crate) fn prefix_word(prefix: Prefix) -> u64
-    ensures { result ≡ packed (prefix_text prefix) }
+// What stands before a part: what opens the parentheses, or a comma, and the word that it carries.
+#[tactic(auto, unfolding(answer::specs::Words::bytes, answer::specs::Words::low, answer::specs::Words::packed))]
+pub(crate) fn before_part(first: bool, prefix: Prefix) -> u64
+    ensures { result ≡ packed (before_part first prefix) }
 {
-    match prefix {
-        Prefix::None => NOTHING,
-        Prefix::Add => ADD,
-        Prefix::Omit => OMIT,
+    match (first, prefix) {
+        (true, Prefix::None) => 0x0100000000000028, // (
+        (true, Prefix::Add) => 0x0400000064646128, // (add
+        (true, Prefix::Omit) => 0x05000074696d6f28, // (omit
+        (false, Prefix::None) => 0x010000000000002c, // ,
+        (false, Prefix::Add) => 0x040000006464612c, // ,add
+        (false, Prefix::Omit) => 0x05000074696d6f2c, // ,omit
     }
 }
 

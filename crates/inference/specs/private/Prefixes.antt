@@ -16,9 +16,13 @@ prefix_text Omit = bytes "omit"
 abbrev pub add_where : Bool → Prefix
 add_where first = cond first Add None
 
--- a part of the parentheses with what stands before it, the first or a later one
+-- what stands before a part, the first or a later one
+abbrev pub before_part : Bool → Prefix → List ℕ
+before_part first prefix = cond first (bytes "(") (bytes ",") ++ prefix_text prefix
+
+-- a part of the parentheses with what stands before it
 abbrev pub part : Bool → Prefix → Interval → List ℕ
-part first prefix interval = cond first (bytes "(") (bytes ",") ++ prefix_text prefix ++ notation_of interval
+part first prefix interval = before_part first prefix ++ notation_of interval
 
 -- behind some parts the next is the first, where they are none
 abbrev pub is_first_behind : {A : Type 0} → Bool → List A → Bool
