@@ -31,7 +31,7 @@ behind : (l : List Tone) (i n : ℕ) → i < n → n ≤ length l → take i l +
 unfolding without_at
 behind l i zero h k = absurd (not-suc-le-zero h)
 behind [] i (suc n) h k = absurd (not-suc-le-zero k)
-behind (t ∷ l) zero (suc n) h k = ap (λ (m : ℕ). take m l) (omega arith)
+behind (t ∷ l) zero (suc n) h k = let e : suc n - 1 ≡ n = omega arith in ap (λ (m : ℕ). take m l) e
 behind (t ∷ l) (suc i) (suc n) h k =
     let e : suc n - suc (suc i) ≡ n - suc i = omega arith in
     rw e (ap (λ (x : List Tone). t ∷ x) (behind l i n (le_of_suc-le-suc h) (le_of_suc-le-suc k)))

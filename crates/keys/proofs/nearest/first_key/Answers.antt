@@ -1,5 +1,5 @@
 -- `keys::nearest::first_key` meets its contract: by whether the class's own key, or the next, is within the range.
-use Rattle.answer.proofs.Kit.{◌≡◌, ℕ, ◌+◌, ◌-◌, ◌*◌, ◌/◌, ◌%◌, ◌≤◌, ◌<◌, dec_lt, arith, ltb, lt-ltb, le-ltb}
+use Rattle.answer.proofs.Kit.{◌≡◌, ap₂, ◌∙◌, ℕ, ◌+◌, ◌-◌, ◌*◌, ◌/◌, ◌%◌, ◌≤◌, ◌<◌, dec_lt, arith, ltb, lt-ltb, le-ltb}
 use mir.Val.{bool_byte}
 use Rattle.keys.proofs.nearest.first_key.Goals as goal
 
@@ -19,7 +19,8 @@ own_below : (key low : ℕ) → near key low < low → key ≤ low
 own_below key low h = omega arith
 
 pub returns-then-low-near : goal.returns-then-low-near
-returns-then-low-near c = is_first _ _ c.if-low-near.true
+returns-then-low-near c =
+    is_first _ _ c.if-low-near.true ∙ ap₂ (λ (class low : ℕ). 48 + class + (low - (48 + class) + 11) / 12 * 12) c.from-key.ensures c.from-low.ensures
 
 pub overflow_sub-result : goal.overflow_sub-result
 overflow_sub-result c = own_below _ _ c.if-low-near.false
