@@ -43,7 +43,7 @@ fn first_key(class: u8, lowest: u8) -> u32
 {
     let key = OCTAVE_KEY + u32::from(class);
     let low = u32::from(lowest);
-    let near = key + ((key < low) as u32) % 2 * 12;
+    let near = key + u32::from(key < low) * 12;
     if low <= near {
         return near;
     }
