@@ -5,10 +5,10 @@ use Rattle.intervals.specs.Sets.{has}
 use Rattle.pool.specs.declared.pool.Tone.{Tone}
 use Rattle.keys.specs.declared.nearest.Offer.{Offer}
 use Rattle.keys.specs.Choice.{ToneKey, keys_of_tones, nearest, chosen}
-use Rattle.keys.specs.private.Ranked.{offered, nearest_of}
+use Rattle.keys.specs.private.Ranked.{offered, nearest_of, best}
 use Rattle.leads.specs.Lead.{lead_of}
 use Rattle.keys.proofs.Among.{chosen_next}
-use Rattle.keys.proofs.Best.{best, search_turn, found_near}
+use Rattle.keys.proofs.Best.{search_turn, found_near}
 use Rattle.std.proofs.lemmas.List.{drop_more}
 use lib.ListN.{drop_of_length-le}
 use Rattle.leads.proofs.lead.lead_key.Goals as goal

@@ -3,8 +3,7 @@ use Rattle.answer.proofs.Kit.{◌≡◌, List, ℕ, drop, map}
 use Rattle.pool.specs.declared.pool.Tone.{Tone}
 use Rattle.keys.specs.declared.nearest.Offer.{Offer}
 use Rattle.keys.specs.Choice.{chosen}
-use Rattle.keys.specs.private.Ranked.{nothing, nearest_of}
-use Rattle.keys.proofs.Best.{best}
+use Rattle.keys.specs.private.Ranked.{nothing, nearest_of, best}
 use Rattle.leads.proofs.lead.lead_key.Given as goal
 
 -- the best offer of the tones of some intervals, or what was found before
