@@ -1,4 +1,3 @@
-pub mod Left
 pub mod Sorted
 pub mod Sift
 pub mod Gathered
