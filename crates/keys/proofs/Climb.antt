@@ -1,42 +1,23 @@
 -- A climb over the keys of a class, from its own up by twelves: those below the range are passed; the next key is nearer to the wanted one
 -- exactly where that is beyond half the way to it, and from the first that is not, none is.
---     under, over    how far a wanted key is from one above it, and from one that is not
 --     passed, taken, past_limit    which keys a climb has
 --     reached        some octaves above the first, each nearer than the one before, and the next not below the limit or not nearer: the nearest
 --     no_key         where the first is not below the limit there is none
-use Rattle.answer.proofs.Kit.{◌≡◌, refl, sym, ap, ap₂, ◌∙◌, Bool, true, false, cond, ◌&&◌, and-false, List, [], ◌∷◌, map, ◌⊎◌, ⊎_elim, ℕ, zero, suc, ◌+◌, ◌*◌, ◌-◌, ◌≤◌, ◌<◌, dec_lt, arith, leb, ltb, lt-ltb, le-ltb, lt-leb, le-leb}
+use Rattle.answer.proofs.Kit.{◌≡◌, refl, sym, ap, ap₂, ◌∙◌, Bool, true, false, cond, ◌&&◌, and-false, List, [], ◌∷◌, map, ◌⊎◌, ⊎_elim, ℕ, zero, suc, ◌+◌, ◌*◌, ◌-◌, ◌≤◌, ◌<◌, arith, leb, ltb, lt-ltb, le-ltb, lt-leb, le-leb}
 use mathlib.Core.Option.{Option, none, some}
 use Rattle.keys.specs.Choice.{keys_from, distance, ToneKey, tone_key, unless_nearer, nearest}
 use Rattle.keys.specs.private.Ranked.{octaves_below, first_key}
 use Rattle.keys.proofs.Winner.{unless_joins}
 
-pub under : (w k : ℕ) → w < k → distance w k ≡ k - w
-under w k h = rw (lt-ltb w k h)
-
-pub over : (w k : ℕ) → k ≤ w → distance w k ≡ w - k
-over w k h = rw (le-ltb w k h)
-
 no_nearer : (w key k : ℕ) → w ≤ key + 6 → key + 12 ≤ k → distance w key ≤ distance w k
-no_nearer w key k near far = by_order (dec_lt w key)
-  where
-    by_order : Dec (w < key) → distance w key ≤ distance w k
-    by_order (yes h) = rw (under w key h, under w k (omega arith)) (omega arith)
-    by_order (no h) = rw (over w key (omega arith), under w k (omega arith)) (omega arith)
+no_nearer w key k near far = omega arith
 
 nearer : (w key : ℕ) → key + 6 < w → distance w (key + 12) < distance w key
-nearer w key h = by_order (dec_lt w (key + 12))
-  where
-    by_order : Dec (w < key + 12) → distance w (key + 12) < distance w key
-    by_order (yes k) = rw (under w (key + 12) k, over w key (omega arith)) (omega arith)
-    by_order (no k) = rw (over w (key + 12) (omega arith), over w key (omega arith)) (omega arith)
+nearer w key far = omega arith
 
 -- no key below a limit that is a byte is 255 from another, as no key is 0
 pub known : (w key : ℕ) → w ≤ 255 → 0 < key → key < 255 → distance w key < 255
-known w key hw low h = by_order (dec_lt w key)
-  where
-    by_order : Dec (w < key) → distance w key < 255
-    by_order (yes k) = rw (under w key k) (omega arith)
-    by_order (no k) = rw (over w key (omega arith)) (omega arith)
+known w key byte low high = omega arith
 
 module _ (lowest limit : ℕ) where
   -- a key below the range is passed, one in it is taken, and from its end on there is none

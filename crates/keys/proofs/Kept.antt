@@ -1,6 +1,5 @@
 -- Offers of the intervals of a set, and the set without one.
 --     without_has    a set without a number has the others
---     keep           the offers of the intervals of a set
 --     keep_without   so the offers that it keeps are those of other intervals
 --     keep_all       every offer of a chosen tone has one of 32 intervals
 use Rattle.answer.proofs.Kit.{◌≡◌, refl, sym, ap, ◌∙◌, Bool, true, false, not, cond, ◌&&◌, ◌||◌, and-true, List, [], ◌∷◌, map, ℕ, ◌-◌, ◌^◌, ◌<◌, arith, T, eqb, eqb-true}
@@ -10,7 +9,7 @@ use Rattle.intervals.proofs.Members.{taken_has}
 use Rattle.pool.specs.declared.pool.Tone.{Tone}
 use Rattle.keys.specs.declared.nearest.Offer.{Offer}
 use Rattle.keys.specs.Choice.{chosen}
-use Rattle.keys.specs.private.Ranked.{nearest_of}
+use Rattle.keys.specs.private.Ranked.{nearest_of, keep}
 use Rattle.intervals.proofs.Width.{within}
 use Rattle.keys.proofs.Best.{near_interval, others}
 use Rattle.keys.proofs.Others.{other_by}
@@ -26,11 +25,6 @@ without_has c s k = by_case (has s c) refl
     by_case : (b : Bool) → has s c ≡ b → has (cond b (s - 2 ^ c) s) k ≡ has s k && not (eqb k c)
     by_case true e = taken_has s c e k
     by_case false e = by_same e (eqb k c) refl
-
--- the offers of the intervals of a set
-unfoldable pub keep : ℕ → List Offer → List Offer
-keep set [] = []
-keep set (o ∷ more) = cond (has set o.interval) (o ∷ keep set more) (keep set more)
 
 pub keep_without : (i s : ℕ) (l : List Offer) → keep (without i s) l ≡ others i (keep s l)
 unfolding keep other_by

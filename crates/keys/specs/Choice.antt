@@ -1,6 +1,7 @@
 -- How a key is chosen among tones: paper 01, "Voicing (001)". The lead, the guides and the tensions are each chosen by nearness to a
 -- key: the lead by the one wanted, guides ("lowest first") by 0, tensions ("highest first", below the lead) by the lead.
-use Rattle.std.specs.Prelude.{cond, ◌&&◌, ◌||◌, List, [], ◌∷◌, ◌++◌, map, ℕ, zero, suc, ◌+◌, ◌-◌, eqb, leb, ltb, length}
+use Rattle.std.specs.Prelude.{cond, ◌&&◌, ◌||◌, List, [], ◌∷◌, ◌++◌, map, ℕ, zero, suc, ◌+◌, eqb, leb, ltb, length}
+use Rattle.std.specs.Int.{abs_diff}
 use Rattle.std.proofs.Math.Option.{Option, none, some, Option-elim}
 use Rattle.intervals.specs.Sets.{has, without}
 use Rattle.pool.specs.declared.pool.Tone.{Tone}
@@ -37,7 +38,7 @@ module _ (lowest limit : ℕ) where
 
 -- how far two keys are apart
 abbrev pub distance : ℕ → ℕ → ℕ
-distance a b = cond (ltb a b) (b - a) (a - b)
+distance a b = abs_diff a b
 
 -- a key, unless a later one is nearer to the wanted: "earliest on a tie"
 abbrev pub unless_nearer : ℕ → ToneKey → Option ToneKey → ToneKey

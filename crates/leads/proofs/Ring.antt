@@ -1,24 +1,24 @@
 -- The ring of a pool: the tone before the first is the last.
 --     started    what the pool bars, begun behind its last tone
-use Rattle.answer.proofs.Kit.{◌≡◌, refl, sym, ap, ◌∙◌, List, [], ◌∷◌, ℕ, zero, suc, ◌-◌, ◌≤◌, ◌<◌, not-suc-le-zero, le_of_suc-le-suc, arith, length, take, get_or}
+--     no_tones   of no tones none bars any
+use Rattle.answer.proofs.Kit.{◌≡◌, refl, sym, ap, ◌∙◌, List, [], ◌∷◌, ℕ, suc, ◌-◌, ◌≤◌, ◌<◌, not-suc-le-zero, arith, length, get_or}
 use Rattle.intervals.specs.Intervals.{intervals, set_of}
 use Rattle.pool.specs.declared.pool.Tone.{Tone}
 use Rattle.leads.specs.Lead.{barring, last_of, unbarred}
 
-last_of_lem : (d t : Tone) (l : List Tone) (n : ℕ) → n ≤ length l → last_of t (take n l) ≡ get_or (t ∷ l) n d
+last_of_lem : (d t : Tone) (l : List Tone) → last_of t l ≡ get_or (t ∷ l) (length l) d
 unfolding last_of
-last_of_lem d t l zero h = refl
-last_of_lem d t [] (suc n) h = absurd (not-suc-le-zero h)
-last_of_lem d t (x ∷ l) (suc n) h = last_of_lem d x l n (le_of_suc-le-suc h)
+last_of_lem d t [] = refl
+last_of_lem d t (x ∷ l) = last_of_lem d x l
 
-pub every : set_of intervals ≡ 8388607
-unfolding set_of intervals
-every = refl
-
-pub started : (d : Tone) (l : List Tone) (n : ℕ) → 0 < n → n ≤ length l → barring (get_or l (n - 1) d) (take n l) 8388607 ≡ unbarred (take n l)
+pub started : (d : Tone) (l : List Tone) → 0 < length l → barring (get_or l (length l - 1) d) l 8388607 ≡ unbarred l
 unfolding unbarred set_of intervals
-started d l zero p h = absurd (not-suc-le-zero p)
-started d [] (suc n) p h = absurd (not-suc-le-zero h)
-started d (t ∷ l) (suc n) p h =
-    let e : n ≡ suc n - 1 = omega arith in
-    ap (λ (x : Tone). barring x (t ∷ take n l) 8388607) (ap (λ (k : ℕ). get_or (t ∷ l) k d) (sym e) ∙ sym (last_of_lem d t l n (le_of_suc-le-suc h)))
+started d [] p = absurd (not-suc-le-zero p)
+started d (t ∷ l) p =
+    let e : suc (length l) - 1 ≡ length l = omega arith in
+    ap (λ (x : Tone). barring x (t ∷ l) 8388607) (ap (λ (k : ℕ). get_or (t ∷ l) k d) e ∙ sym (last_of_lem d t l))
+
+pub no_tones : (l : List Tone) → length l ≤ 0 → 8388607 ≡ unbarred l
+unfolding unbarred set_of intervals
+no_tones [] h = refl
+no_tones (t ∷ l) h = absurd (not-suc-le-zero h)

@@ -1,19 +1,17 @@
 // The lead: the key of an unbarred tone that is nearest to the wanted one, and what the pool is once it has left.
-ghost use Rattle.std.specs.Prelude.{◌≡◌, cond, ◌≤◌, take};
+ghost use Rattle.std.specs.Prelude.{◌≡◌, cond, take};
 ghost use Rattle.intervals.specs.Sets.{without};
 ghost use Rattle.pool.specs.Pool.{tones_of};
-ghost use Rattle.pool.specs.private.Places.{laid_over, tones_in, IsPool};
 ghost use Rattle.pool.specs.Order.{sorted};
 ghost use Rattle.leads.specs.Lead.{rubs, unbarred, owns, without_last, lead_of};
-ghost use Rattle.leads.specs.private.Leaves.{without_at, led_of};
+ghost use Rattle.leads.specs.private.Leaves.{left_by, led_of};
 
 use keys::bits::in_set;
-use keys::nearest::{OCTAVE_KEY, distance, nearest, nothing};
-use pool::order::ordered_pool;
-use pool::pool::{Pool, Tone};
+use keys::nearest::{OCTAVE_KEY, Span, nearest, nothing};
+use pool::pool::{Pairs, Pool, Tone, ordered_pool};
 
 // What is left of the pool once the lead has left, and the lead. The pool comes first, where a copy of it is aligned.
-#[derive(Clone, Copy)]
+#[derive(Drop)]
 pub struct Led {
     pub left: Pool,
     pub key: u8,
@@ -25,7 +23,7 @@ const EVERY: u32 = (1 << 23) - 1;
 fn rubs(tone: Tone, next: Tone) -> bool
     ensures { result ≡ rubs tone next }
 {
-    let apart = distance(tone.base, next.base);
+    let apart = tone.base.abs_diff(next.base);
     (apart == 1) | (apart == 11)
 }
 
@@ -35,112 +33,63 @@ fn barring(free: u32, tone: Tone, next: Tone) -> u32
     ensures { result ≡ cond (rubs tone next) (without next.interval free) free }
 {
     let bars = rubs(tone, next) & in_set(free, next.interval);
-    free - ((bars as u32) % 2 << (next.interval % 32))
+    free - (u32::from(bars) << (next.interval % 32))
 }
 
 // The intervals that no tone bars. Each tone is its successor's, the last the first's.
-fn unbarred(pool: Pool) -> u32
-    requires { IsPool pool }
-    ensures { result ≡ unbarred (tones_in pool) }
+fn unbarred(tones: &[Tone]) -> u32
+    ensures { result ≡ unbarred tones.now }
 {
-    let count = pool.count;
+    let Some(&last) = tones.last() else {
+        return EVERY;
+    };
     let mut free = EVERY;
-    if count == 0 {
-        return free;
-    }
-    let mut tone = pool.tones[count - 1];
-    let mut i = 0;
-    while i < count {
-        let next = pool.tones[i];
+    let mut tone = last;
+    for &next in tones {
         free = barring(free, tone, next);
         tone = next;
-        i += 1;
     }
     free
 }
 
 // The lead: the nearest key of an unbarred tone, or 0 where none has a key.
-fn lead_key(pool: Pool, wanted: u8, lowest: u8, limit: u8) -> u8
-    requires { IsPool pool }
-    ensures { result ≡ lead_of lowest limit wanted (tones_in pool) }
+fn lead_key(tones: &[Tone], wanted: u8, span: Span) -> u8
+    ensures { result ≡ lead_of span.lowest span.limit wanted tones.now }
 {
-    let free = unbarred(pool);
+    let free = unbarred(tones);
     let mut found = nothing(0);
-    let mut i = 0;
-    while i < pool.count {
-        let tone = pool.tones[i];
-        let offer = nearest(tone, wanted, lowest, limit);
+    for &tone in tones {
+        let offer = nearest(tone, wanted, span);
         if (offer.rank < found.rank) & in_set(free, tone.interval) {
             found = offer;
         }
-        i += 1;
     }
     found.key
 }
 
-fn owns(tone: Tone, key: u8, lowest: u8, limit: u8) -> bool
-    ensures { result ≡ owns lowest limit key tone }
+fn owns(tone: Tone, key: u8, span: Span) -> bool
+    ensures { result ≡ owns span.lowest span.limit key tone }
 {
-    let first = OCTAVE_KEY + tone.class as u32;
-    let wide = key as u32;
-    if wide < first {
-        return false;
-    }
-    (lowest <= key) & (key < limit) & ((wide - first) % 12 == 0)
+    let first = OCTAVE_KEY + u32::from(tone.class);
+    let wide = u32::from(key);
+    (first <= wide) && (span.lowest <= key) & (key < span.limit) & ((wide - first) % 12 == 0)
 }
 
-// The place of the last tone that owns a key, or the count of tones where none does.
-fn last_owner(pool: Pool, key: u8, lowest: u8, limit: u8) -> usize
-    requires { IsPool pool }
-    ensures { (result ≤ pool.count) × (without_at result (tones_in pool) ≡ without_last lowest limit key (tones_in pool)) }
+// The place of the last tone that owns a key.
+fn last_owner(tones: &[Tone], key: u8, span: Span) -> Option<usize>
+    ensures { without_last span.lowest span.limit key tones.now ≡ left_by result tones.now }
 {
-    let count = pool.count;
-    let mut i = count;
-    while 0 < i {
-        i -= 1;
-        if owns(pool.tones[i], key, lowest, limit) {
-            return i;
-        }
-    }
-    count
+    tones.iter().rposition(|&tone| owns(tone, key, span))
 }
 
-// The pool without its tone at a place: those behind it come one forward, and where the last stood it stays. Past the last tone, the pool as it is.
-fn remove(pool: Pool, place: usize) -> Pool
-    requires { IsPool pool }
-    ensures { result ≡ laid_over (without_at place (tones_in pool)) pool.tones }
+// The lead of the pairs of a chord that is nearest to a wanted key, in a range, and the pool, in order of base, that it leaves.
+pub fn nearest_lead(pairs: Pairs, wanted: u8, span: Span) -> Led
+    ensures { result ≡ led_of span.lowest span.limit wanted (sorted (take 16 (tones_of pairs.entry.classes.now pairs.entry.intervals.now))) }
 {
-    let count = pool.count;
-    if place >= count {
-        return pool;
+    let mut left = ordered_pool(pairs);
+    let key = lead_key(left.tones(), wanted, span);
+    if let Some(place) = last_owner(left.tones(), key, span) {
+        left.remove(place);
     }
-    let mut tones = pool.tones;
-    let last = count - 1;
-    let mut i = place;
-    while i < last {
-        tones[i] = tones[i + 1];
-        i += 1;
-    }
-    Pool { tones, count: last }
-}
-
-// What is left of the pool once the lead has left it.
-fn leave(pool: Pool, lead: u8, lowest: u8, limit: u8) -> Pool
-    requires { IsPool pool }
-    ensures { result ≡ laid_over (without_last lowest limit lead (tones_in pool)) pool.tones }
-{
-    remove(pool, last_owner(pool, lead, lowest, limit))
-}
-
-// The lead of the pairs of a chord that is nearest to a wanted key, in the range from a lowest key on and below a limit, and the pool, in
-// order of base, that it leaves.
-pub fn nearest_lead(classes: &[u8], intervals: &[u8], wanted: u8, lowest: u8, limit: u8) -> Led
-    ensures { result ≡ led_of lowest limit wanted (sorted (take 16 (tones_of classes.now intervals.now))) }
-{
-    let pool = ordered_pool(classes, intervals);
-    let key = lead_key(pool, wanted, lowest, limit);
-    Led {
-        left: leave(pool, key, lowest, limit),
-        key,
-    }
+    Led { left, key }
 }

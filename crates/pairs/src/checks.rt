@@ -1,40 +1,30 @@
 // Whether the pairs of a chord can be its tones.
-ghost use Rattle.std.specs.Prelude.{◌≡◌, ◌≤◌, length, take};
+ghost use Rattle.std.specs.Prelude.{◌≡◌};
 ghost use Rattle.pool.specs.Pool.{tones_of};
-ghost use Rattle.pairs.specs.Checks.{first_checked, pairs_checked};
+ghost use Rattle.pairs.specs.Checks.{pairs_checked};
 
 use answer::refusal::Refusal;
-use pool::pool::{MOST, used};
+use pool::pool::{MOST, Pairs};
 
 const LAST_NOTE: u8 = 11;
 
 const LAST_INTERVAL: u8 = 22;
 
-// The first of some pairs that is bad is refused, with its position; in one pair the note is looked at before the interval.
-fn check_each(classes: &[u8], intervals: &[u8], count: usize) -> Result<(), Refusal>
-    requires { (count ≤ length classes.now) × (count ≤ length intervals.now) }
-    ensures { result ≡ first_checked (tones_of (take count classes.now) (take count intervals.now)) }
+// The pairs that are used: too many are refused before a bad one. Of those the first that is bad is, with its position; in one pair the
+// note is looked at before the interval.
+pub fn check_pairs(pairs: Pairs) -> Result<(), Refusal>
+    ensures { result ≡ pairs_checked (tones_of pairs.entry.classes.now pairs.entry.intervals.now) }
 {
-    let mut i = 0;
-    while i < count {
-        if classes[i] > LAST_NOTE {
-            return Err(Refusal::BadPairClass(i));
-        }
-        if intervals[i] > LAST_INTERVAL {
-            return Err(Refusal::BadPairInterval(i));
-        }
-        i += 1;
-    }
-    Ok(())
-}
-
-// The pairs that are used: too many are refused before a bad one.
-pub fn check_pairs(classes: &[u8], intervals: &[u8]) -> Result<(), Refusal>
-    ensures { result ≡ pairs_checked (tones_of classes.now intervals.now) }
-{
-    let count = used(classes, intervals);
-    if count > MOST {
+    if pairs.used() > MOST {
         return Err(Refusal::TooManyPairs);
     }
-    check_each(classes, intervals, count)
+    for (place, (&class, &interval)) in pairs.classes.iter().zip(pairs.intervals).enumerate() {
+        if class > LAST_NOTE {
+            return Err(Refusal::BadPairClass(place));
+        }
+        if interval > LAST_INTERVAL {
+            return Err(Refusal::BadPairInterval(place));
+        }
+    }
+    Ok(())
 }

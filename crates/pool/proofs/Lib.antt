@@ -1,7 +1,5 @@
-pub mod Left
 pub mod Sorted
 pub mod Sift
-pub mod Pairs
-pub mod Pooled
+pub mod Gathered
 pub mod Among
 pub mod Determined

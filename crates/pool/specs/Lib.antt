@@ -1,3 +1,2 @@
 pub mod Pool
 pub mod Order
-pub mod private

@@ -1,6 +1,6 @@
 -- The pool: paper 01, "Voicing (001)".
 use Rattle.intervals.specs.declared.interval.Interval.{Interval}
-use Rattle.std.specs.Prelude.{Bool, false, ◌||◌, List, [], ◌∷◌, ℕ, Option, Some, None}
+use Rattle.std.specs.Prelude.{Bool, false, ◌||◌, List, [], ◌∷◌, ℕ, zero, suc, Option, Some, None}
 use Rattle.intervals.specs.Intervals.{numbered, class_of}
 use Rattle.pool.specs.declared.pool.Tone.{Tone}
 
@@ -27,3 +27,9 @@ tones_of (c ∷ classes) (i ∷ intervals) = tone_of c i ∷ tones_of classes in
 unfoldable pub any_tone : (Tone → Bool) → List Tone → Bool
 any_tone test [] = false
 any_tone test (t ∷ more) = test t || any_tone test more
+
+-- tones without the one at a place; past the last of them, as they were
+unfoldable pub without_at : ℕ → List Tone → List Tone
+without_at n [] = []
+without_at zero (t ∷ more) = more
+without_at (suc n) (t ∷ more) = t ∷ without_at n more

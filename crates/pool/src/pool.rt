@@ -1,9 +1,11 @@
 // The pool of a chord's tones, as the Rust's `voicings/mod.rs` gathers it.
-ghost use Rattle.std.specs.Prelude.{◌≡◌, ◌++◌, ◌≤◌, length, take, drop};
-ghost use Rattle.pool.specs.Pool.{base_of, tone_of, tones_of};
-ghost use Rattle.pool.specs.private.Places.{blanks, pool_of};
+ghost use Rattle.std.specs.Prelude.{◌≡◌, ◌≤◌, length, take};
+ghost use Rattle.pool.specs.Pool.{base_of, tone_of, tones_of, without_at};
+ghost use Rattle.pool.specs.Order.{sorted};
 
+use crate::order::order;
 use intervals::interval::Interval;
+use std::marker::Model;
 
 // A tone of a chord: its interval's semitones in one octave, its class, and its interval's number.
 #[derive(Clone, Copy)]
@@ -13,30 +15,46 @@ pub struct Tone {
     pub interval: u8,
 }
 
+// The pairs of note class and interval that a host gives, in two ranges side by side.
+#[derive(Clone, Copy)]
+pub struct Pairs<'a> {
+    pub classes: &'a [u8],
+    pub intervals: &'a [u8],
+}
+
 // The most tones of a pool.
 pub const MOST: usize = 16;
 
-// The first `count` of the tones are in the pool.
-#[derive(Clone, Copy)]
-pub struct Pool {
-    pub tones: [Tone; 16],
-    pub count: usize,
-}
-
 // What stands where no tone does.
-pub const BLANK: Tone = Tone {
+const BLANK: Tone = Tone {
     base: 0,
     class: 0,
     interval: 0,
 };
 
+// At most so many tones. The first `count` places hold them.
+#[derive(Drop)]
+pub struct Pool {
+    tones: [Tone; MOST],
+    count: usize,
+}
+
+// Clauses see the list of the tones.
+impl Model for Pool {
+    ghost use Rattle.std.specs.Prelude.{List, ◌≤◌, take};
+    ghost use Rattle.pool.specs.declared.pool.Tone.{Tone};
+
+    ghost Value = { List Tone };
+
+    ghost view = { λ pool. take pool.count pool.tones };
+
+    ghost invariant = { λ pool. pool.count ≤ 16 };
+}
+
 fn base(interval: u8) -> u8
     ensures { result ≡ base_of interval }
 {
-    match Interval::from_number(interval as u32) {
-        Some(named) => (named.st() % 12) as u8,
-        None => 0,
-    }
+    Interval::from_number(u32::from(interval)).map_or(0, |named| (named.st() % 12) as u8)
 }
 
 impl Tone {
@@ -51,41 +69,44 @@ impl Tone {
     }
 }
 
-// How many pairs are used: as many as the shorter range has.
-pub fn used(classes: &[u8], intervals: &[u8]) -> usize
-    ensures { result ≡ length (tones_of classes.now intervals.now) }
-{
-    if classes.len() < intervals.len() {
-        return classes.len();
+impl Pairs<'_> {
+    // How many are used: as many as the shorter range has.
+    pub fn used(self) -> usize
+        ensures { result ≡ length (tones_of self.entry.classes.now self.entry.intervals.now) }
+    {
+        self.classes.len().min(self.intervals.len())
     }
-    intervals.len()
 }
 
-// The tones of the first pairs, and blanks behind them.
-fn laid(classes: &[u8], intervals: &[u8], count: usize) -> [Tone; 16]
-    requires { (count ≤ 16) × (count ≤ length classes.now) × (count ≤ length intervals.now) }
-    ensures { result ≡ tones_of (take count classes.now) (take count intervals.now) ++ drop count blanks }
-{
-    let mut tones = [BLANK; 16];
-    let mut i = 0;
-    while i < count {
-        tones[i] = Tone::new(classes[i], intervals[i]);
-        i += 1;
+impl Pool {
+    pub fn tones(&self) -> &[Tone]
+        ensures tones { result.now ≡ self.now }
+        ensures few { length self.now ≤ 16 }
+    {
+        &self.tones[..self.count]
     }
-    tones
+
+    // Past the last tone the pool stays as it is.
+    pub fn remove(&mut self, place: usize)
+        ensures { self.new ≡ without_at place self.old }
+    {
+        if place >= self.count {
+            return;
+        }
+        self.tones.copy_within(place + 1..self.count, place);
+        self.count -= 1;
+    }
 }
 
-// The tones of the pairs that are used, in the order given; of more than the most, the first.
-pub(crate) fn notes_pool(classes: &[u8], intervals: &[u8]) -> Pool
-    ensures { result ≡ pool_of (tones_of classes.now intervals.now) }
+// The tones of the pairs that are used, in order of base; of more than the most, the first.
+pub fn ordered_pool(pairs: Pairs) -> Pool
+    ensures { result ≡ sorted (take 16 (tones_of pairs.entry.classes.now pairs.entry.intervals.now)) }
 {
-    let pairs = used(classes, intervals);
-    let mut count = MOST;
-    if pairs < MOST {
-        count = pairs;
+    let count = pairs.used().min(MOST);
+    let mut tones = [BLANK; MOST];
+    for i in 0..count {
+        tones[i] = Tone::new(pairs.classes[i], pairs.intervals[i]);
     }
-    Pool {
-        tones: laid(classes, intervals, count),
-        count,
-    }
+    order(&mut tones[..count]);
+    Pool { tones, count }
 }

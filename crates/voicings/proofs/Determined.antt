@@ -3,5 +3,5 @@
 use Rattle.answer.proofs.Determined.{DecidesWith, both}
 use Rattle.voicings.proofs.voicing.voicing.Reads as voicing
 
-pub voicing_decides : DecidesWith voicing.Post (λ κs s. s.1.1.1.0.now)
+pub voicing_decides : DecidesWith voicing.Post (λ κs s. s.1.1.0.now)
 voicing_decides κs a r r' s s' = both

@@ -1,18 +1,19 @@
 // The voicing of a chord record: bass, guides, tensions, lead.
-ghost use Rattle.std.specs.Prelude.{◌≡◌, true, ◌≤◌, length};
+ghost use Rattle.std.specs.Prelude.{◌≡◌, true, ◌++◌, ◌≤◌, length};
 ghost use Rattle.answer.specs.Replies.{Answered};
-ghost use Rattle.answer.specs.Written.{Writes};
 ghost use Rattle.intervals.specs.Bass.{is_bass};
-ghost use Rattle.voicings.specs.Voicing.{wanted_of, bass_keys, chord_checked, voicing_reply};
+ghost use Rattle.voicings.specs.Voicing.{bass_keys, chord_checked, voicing_reply};
 
-use crate::guides::put_above;
-use crate::range::is_range;
-use answer::output::give;
+use crate::guides::push_above;
+use crate::range::{ROOM, is_range};
 use answer::refusal::Refusal;
+use answer::text::Text;
 use intervals::bass::is_bass;
 use intervals::set::LAST_CLASS;
+use keys::nearest::Span;
 use leads::lead::nearest_lead;
 use pairs::checks::check_pairs;
+use pool::pool::Pairs;
 
 // A chord, but for its tones, which are pairs of a note class and an interval's number: its keys above the bass are from a lowest to a
 // highest. A lead is a wish, and may be beyond them; with none the highest is wanted.
@@ -25,32 +26,17 @@ pub struct Chord {
     pub lead: Option<u8>,
 }
 
-// Two bass keys, sixteen guides, sixteen tensions and the lead.
-const ROOM: usize = 35;
-
-fn wanted(lead: Option<u8>, highest: u8) -> u8
-    ensures { result ≡ wanted_of highest lead }
-{
-    match lead {
-        None => highest,
-        Some(key) => key,
-    }
-}
-
-// Writes the bass and the root, or the root alone, to the front of a buffer.
-fn put_bass(buffer: &mut [u8], root: u32, bass: Option<u32>) -> usize
-    requires { (root ≤ 11) × (is_bass bass ≡ true) × (2 ≤ length buffer.old) }
-    ensures { Writes buffer.old 0 (bass_keys root bass) result buffer.new }
+// Adds the bass and the root, or the root alone.
+fn push_bass(keys: &mut Text<ROOM>, root: u32, bass: Option<u32>)
+    requires classes { (root ≤ 11) × (is_bass bass ≡ true) }
+    requires room { length keys.old ≤ 33 }
+    ensures { keys.new ≡ keys.old ++ bass_keys root bass }
 {
     match bass {
-        None => {
-            buffer[0] = (root + 36) as u8;
-            1
-        }
+        None => keys.push_byte((root + 36) as u8),
         Some(class) => {
-            buffer[0] = (class + 36) as u8;
-            buffer[1] = (root + 48) as u8;
-            2
+            keys.push_byte((class + 36) as u8);
+            keys.push_byte((root + 48) as u8);
         }
     }
 }
@@ -59,8 +45,7 @@ fn put_bass(buffer: &mut [u8], root: u32, bass: Option<u32>) -> usize
 fn check_chord(chord: Chord) -> Result<(), Refusal>
     ensures { result ≡ chord_checked chord }
 {
-    let bass = chord.bass;
-    if !((chord.root <= LAST_CLASS) & is_bass(bass)) {
+    if !((chord.root <= LAST_CLASS) & is_bass(chord.bass)) {
         return Err(Refusal::BadClass);
     }
     if !is_range(chord.lowest, chord.highest) {
@@ -70,25 +55,19 @@ fn check_chord(chord: Chord) -> Result<(), Refusal>
 }
 
 // The voicing of a chord and its pairs, of which as many are used as the shorter range has.
-pub fn voicing(chord: Chord, classes: &[u8], intervals: &[u8], out: &mut [u8]) -> Result<usize, Refusal>
-    ensures { Answered (voicing_reply chord classes.now intervals.now) out.old result out.new }
+pub fn voicing(chord: Chord, pairs: Pairs, out: &mut [u8]) -> Result<usize, Refusal>
+    ensures { Answered (voicing_reply chord pairs.entry.classes.now pairs.entry.intervals.now) out.old result out.new }
 {
-    let bass = chord.bass;
-    let lead = chord.lead;
-    match check_chord(chord) {
-        Err(why) => Err(why),
-        Ok(()) => match check_pairs(classes, intervals) {
-            Err(why) => Err(why),
-            Ok(()) => {
-                let lowest = chord.lowest as u8;
-                let highest = chord.highest as u8;
-                let limit = highest + 1;
-                let led = nearest_lead(classes, intervals, wanted(lead, highest), lowest, limit);
-                let mut buffer = [0u8; ROOM];
-                let place = put_bass(&mut buffer, chord.root, bass);
-                let end = put_above(&mut buffer, place, led, lowest, limit);
-                give(&buffer[..end], out)
-            }
-        },
-    }
+    check_chord(chord)?;
+    check_pairs(pairs)?;
+    let highest = chord.highest as u8;
+    let span = Span {
+        lowest: chord.lowest as u8,
+        limit: highest + 1,
+    };
+    let led = nearest_lead(pairs, chord.lead.unwrap_or(highest), span);
+    let mut keys = Text::new();
+    push_bass(&mut keys, chord.root, chord.bass);
+    push_above(&mut keys, &led, span);
+    keys.give(out)
 }

@@ -8,7 +8,7 @@ use Rattle.leads.proofs.lead.barring.Goals as goal
 
 -- the bit that goes, as the code shifts it
 abbrev bit_out : Bool → ℕ → ℕ
-bit_out b k = bool_byte b % 2 * 2 ^ (k % 32) % 2 ^ 32
+bit_out b k = bool_byte b * 2 ^ (k % 32) % 2 ^ 32
 
 module _ (free k : ℕ) (small : free < 2 ^ 32) where
   shifted : has free k ≡ true → bit_out true k ≡ 2 ^ k
@@ -29,8 +29,9 @@ module _ (free k : ℕ) (small : free < 2 ^ 32) where
   barred false m e = omega arith
 
 pub overflow_sub-result : goal.overflow_sub-result
-overflow_sub-result c = out_least c.args.free c.args.next.interval (search rules) c.rubs.result c.in_set.result (sym c.in_set.ensures)
+overflow_sub-result c = rw c.from.ensures (out_least c.args.free c.args.next.interval (search rules) c.rubs.result c.in_set.result (sym c.in_set.ensures))
 
 pub returns : goal.returns
-returns c = barred c.args.free c.args.next.interval (search rules) c.rubs.result c.in_set.result (sym c.in_set.ensures)
+returns c =
+    rw c.from.ensures (barred c.args.free c.args.next.interval (search rules) c.rubs.result c.in_set.result (sym c.in_set.ensures))
     ∙ ap (λ (b : Bool). cond b (without c.args.next.interval c.args.free) c.args.free) c.rubs.ensures

@@ -1,17 +1,16 @@
--- `leads::lead::lead_key` meets its contract. The loop's invariant: the best of what was found and of what the tones left offer is the
--- best of all.
-use Rattle.answer.proofs.Kit.{◌≡◌, refl, sym, ap, ◌∙◌, Bool, true, false, cond, ◌&&◌, List, ◌∷◌, map, ℕ, ◌+◌, ◌≤◌, ◌<◌, arith, ltb, length, get_or, slice}
+-- `leads::lead::lead_key` meets its contract: by the turns of a search for the best offer.
+use Rattle.answer.proofs.Kit.{◌≡◌, refl, sym, ap, ◌∙◌, Bool, true, false, cond, ◌&&◌, List, ◌∷◌, map, ℕ, ◌+◌, arith, ltb, get_or, drop}
 use mathlib.Core.Option.{Option, none, some, Option-elim}
 use Rattle.intervals.specs.Sets.{has}
 use Rattle.pool.specs.declared.pool.Tone.{Tone}
 use Rattle.keys.specs.declared.nearest.Offer.{Offer}
-use Rattle.pool.specs.private.Places.{tones_in, blank}
 use Rattle.keys.specs.Choice.{ToneKey, keys_of_tones, nearest, chosen}
-use Rattle.keys.specs.private.Ranked.{offered, nearest_of}
+use Rattle.keys.specs.private.Ranked.{offered, nearest_of, best}
 use Rattle.leads.specs.Lead.{lead_of}
 use Rattle.keys.proofs.Among.{chosen_next}
-use Rattle.keys.proofs.Best.{best, search_turn, found_near}
-use Rattle.pool.proofs.Left.{next, none as no_more}
+use Rattle.keys.proofs.Best.{search_turn, found_near}
+use Rattle.std.proofs.lemmas.List.{drop_more}
+use lib.ListN.{drop_of_length-le}
 use Rattle.leads.proofs.lead.lead_key.Goals as goal
 use Rattle.leads.proofs.lead.lead_key.Goals.{then-offer-found, else-offer-found}
 use Rattle.leads.proofs.lead.lead_key.Invariants.{best_free}
@@ -29,15 +28,11 @@ module _ (near : Tone → Offer) (free : ℕ) where
       by_member false = refl
 
   -- it is found where it ranks less, too
-  turn : (tones : List Tone) (found : Offer) (i n : ℕ) → i < n → n ≤ length tones → (less member : Bool)
-      → ltb (near (get_or tones i blank)).rank found.rank ≡ less → has free (get_or tones i blank).interval ≡ member
-      → best (cond (less && member) (near (get_or tones i blank)) found) (offered_by (slice (i + 1) n tones)) ≡ best found (offered_by (slice i n tones))
-  turn tones found i n h k less member e f =
-      let this = get_or tones i blank in
-      let rest = slice (i + 1) n tones in
-      search_turn (near this) found (offered_by rest) less member e
-      ∙ sym (ap (λ (l : List Tone). best found (offered_by l)) (next tones i n blank h k) ∙ ap (best found) (chosen_free this rest)
-      ∙ ap (λ (b : Bool). best found (cond b (near this ∷ offered_by rest) (offered_by rest))) f)
+  turn : (t : Tone) (l : List Tone) (found : Offer) (less member : Bool) → ltb (near t).rank found.rank ≡ less → has free t.interval ≡ member
+      → best (cond (less && member) (near t) found) (offered_by l) ≡ best found (offered_by (t ∷ l))
+  turn t l found less member e f =
+      search_turn (near t) found (offered_by l) less member e
+      ∙ sym (ap (best found) (chosen_free t l) ∙ ap (λ (b : Bool). best found (cond b (near t ∷ offered_by l) (offered_by l))) f)
 
 -- the key of what is found, or 0
 key_of : (wanted : ℕ) (o : Option ToneKey) → (offered wanted 0 o).key ≡ Option-elim o 0 (λ (k : ToneKey). k.key)
@@ -45,28 +40,33 @@ unfolding Option-elim
 key_of wanted none = refl
 key_of wanted (some k) = refl
 
-pub loop-i-init : goal.loop-i-init
-loop-i-init c = (omega arith, rw c.nothing-found.ensures)
+pub loop-tone-init : goal.loop-tone-init
+loop-tone-init c = rw c.nothing-found.ensures
 
-pub loop-i-preserved : goal.loop-i-preserved
-loop-i-preserved c = let near = c.nearest-offer in
-    let l = c.loop-i in
+pub loop-tone-preserved : goal.loop-tone-preserved
+loop-tone-preserved c =
+    let near = c.nearest-offer in
+    let l = c.loop-tone in
+    let a = c.args in
     let free = c.unbarred-free.result in
-    let member = c.in_set in
+    let tones = a.tones.now in
+    let tone = get_or tones l.tone-index record { base = 0; class = 0; interval = 0 } in
+    let best_of = best_free a.span.lowest a.span.limit a.wanted free in
     let less = ap (λ (o : Offer). ltb o.rank l.found.rank) near.ensures in
-    let found = turn (nearest_of c.args.lowest c.args.limit c.args.wanted) free c.args.pool.tones l.found l.i c.args.pool.count (omega arith) (omega arith) (ltb near.result.rank l.found.rank) member.result (sym less) (sym member.ensures) in
+    let found = turn (nearest_of a.span.lowest a.span.limit a.wanted) free tone (drop (l.tone-index + 1) tones) l.found (ltb near.result.rank l.found.rank) c.in_set.result (sym less) (sym c.in_set.ensures)
+    ∙ ap (best_of l.found) (sym (drop_more tones l.tone-index _ (omega arith))) ∙ l.invariant in
     elim c.if-offer-found.branch [
-      | then-offer-found w ↦ (omega arith, rw (w.found-is ∙ near.ensures) (rw w.if-offer-found.true at found) ∙ l.invariant.1)
-      | else-offer-found w ↦ (omega arith, rw w.found-is (rw w.if-offer-found.false at found) ∙ l.invariant.1)
+      | then-offer-found w ↦ rw (w.found-is ∙ near.ensures) (rw w.if-offer-found.true at found)
+      | else-offer-found w ↦ rw w.found-is (rw w.if-offer-found.false at found)
     ]
 
 pub returns : goal.returns
 unfolding lead_of best chosen
-returns c = let l = c.loop-i in
+returns c = let l = c.loop-tone in
     let a = c.args in
-    let tones = tones_in a.pool in
-    let found = best_free a.lowest a.limit a.wanted c.unbarred-free.result in
-    let over = ap (found l.found) (sym (no_more a.pool.tones l.i a.pool.count l.invariant.0 c.loop-i-test.false)) ∙ l.invariant.1 in
-    ap (λ (o : Offer). o.key) (over ∙ found_near a.lowest a.limit a.wanted (omega arith) (omega arith) (chosen c.unbarred-free.result 0 tones))
-    ∙ key_of a.wanted (nearest a.wanted (keys_of_tones a.lowest a.limit (chosen c.unbarred-free.result 0 tones)))
-    ∙ ap (λ (free : ℕ). Option-elim (nearest a.wanted (keys_of_tones a.lowest a.limit (chosen free 0 tones))) 0 (λ (k : ToneKey). k.key)) c.unbarred-free.ensures
+    let tones = a.tones.now in
+    let free = c.unbarred-free.result in
+    let over = ap (best_free a.span.lowest a.span.limit a.wanted free l.found) (sym (drop_of_length-le tones (omega arith))) ∙ l.invariant in
+    ap (λ (o : Offer). o.key) (over ∙ found_near a.span.lowest a.span.limit a.wanted (omega arith) (omega arith) (chosen free 0 tones))
+    ∙ key_of a.wanted (nearest a.wanted (keys_of_tones a.span.lowest a.span.limit (chosen free 0 tones)))
+    ∙ ap (λ (set : ℕ). Option-elim (nearest a.wanted (keys_of_tones a.span.lowest a.span.limit (chosen set 0 tones))) 0 (λ (k : ToneKey). k.key)) c.unbarred-free.ensures

@@ -1,16 +1,16 @@
 -- `leads::lead::owns` meets its contract: by how far the key is above the tone's first.
-use Rattle.answer.proofs.Kit.{sym, ◌+◌, arith}
+use Rattle.answer.proofs.Kit.{sym, ◌∙◌, lt-leb, ◌+◌, arith}
 use Rattle.keys.specs.Choice.{keys_of}
 use Rattle.leads.specs.Lead.{owns}
 use Rattle.leads.proofs.Owned.{none_below, by_twelves}
 use Rattle.leads.proofs.lead.owns.Goals as goal
 
-pub returns-then-wide-first : goal.returns-then-wide-first
+pub returns-then-first-wide : goal.returns-then-first-wide
 unfolding owns keys_of
-returns-then-wide-first c = let a = c.args in
-    sym (none_below a.lowest a.limit a.key 18 (48 + a.tone.class) c.if-wide-first.true)
+returns-then-first-wide c = let a = c.args in
+    rw (c.from-wide.ensures, c.from-first.ensures) (sym (by_twelves a.span.lowest a.span.limit a.key 18 (48 + a.tone.class) (omega arith) (omega arith)))
 
-pub returns : goal.returns
+pub returns-else-first-wide : goal.returns-else-first-wide
 unfolding owns keys_of
-returns c = let a = c.args in
-    sym (by_twelves a.lowest a.limit a.key 18 (48 + a.tone.class) c.if-wide-first.false (omega arith))
+returns-else-first-wide c = let a = c.args in
+    lt-leb _ _ c.if-first-wide.false ∙ sym (none_below a.span.lowest a.span.limit a.key 18 (48 + a.tone.class) (omega arith))

@@ -1,0 +1,5 @@
+-- `pool::pool::Pool::tones` meets its contract: it shows the places that the view has.
+use Rattle.pool.proofs.pool.Pool.tones.Goals as goal
+
+pub returns-clause-tones : goal.returns-clause-tones
+returns-clause-tones c = c.self.view_is
