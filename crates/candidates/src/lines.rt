@@ -9,9 +9,9 @@ ghost use Rattle.names.specs.Names.{flats, table_of};
 ghost use Rattle.rules.specs.Suffix.{suffix_of};
 ghost use Rattle.candidates.specs.Keys.{seen_from, class_set};
 ghost use Rattle.candidates.specs.Candidates.{chords, over, lines, candidates_of};
-ghost use Rattle.candidates.specs.private.Finds.{Classes};
+ghost use Rattle.candidates.specs.private.Classes.{Within};
 
-use crate::keys::{find, seen_from, wide};
+use crate::keys::{Classes, seen_from};
 use answer::output::give;
 use answer::refusal::Refusal;
 use answer::word::put;
@@ -43,19 +43,19 @@ fn put_line(out: &mut [u8], name: u64, class: u32, set: u32, behind: u64) -> usi
 
 // The candidates of the classes of a set, in their order: each goes into the part of `out` that is still free.
 fn put_lines(out: &mut [u8], names: Names, order: &[u8], set: u32) -> usize
-    requires { (set < 4096) × (length order.now ≤ 12) × Classes set order.now × (448 ≤ length out.old) }
+    requires { (set < 4096) × (length order.now ≤ 12) × Within set order.now × (448 ≤ length out.old) }
     ensures { Writes out.old 0 (lines (table_of names) (chords set order.now)) result out.new }
 {
     if order.len() == 0 {
         return 0;
     }
-    let root = wide(order[0]);
+    let root = u32::from(order[0]);
     let first = class_name(names, root);
     let behind = over_name(first);
     let mut used = put_line(out, first, root, set, 0);
     let mut i = 1;
     while i < order.len() {
-        let class = wide(order[i]);
+        let class = u32::from(order[i]);
         let name = class_name(names, class);
         used += put_line(&mut out[used..], name, class, set, behind);
         i += 1;
@@ -70,11 +70,9 @@ const ROOM: usize = 448;
 pub fn candidates_in(names: Names, keys: &[u8], out: &mut [u8]) -> Result<usize, Refusal>
     ensures { Answered (text (candidates_of (table_of names) keys.now)) out.old result out.new }
 {
-    let mut order = [0u8; 12];
-    let found = find(keys, &mut order);
-    let count = found.count;
+    let classes = Classes::of(keys);
     let mut buffer = [0u8; ROOM];
-    let end = put_lines(&mut buffer, names, &order[..count], found.set);
+    let end = put_lines(&mut buffer, names, classes.as_slice(), classes.set());
     give(&buffer[..end], out)
 }
 
@@ -89,7 +87,5 @@ pub fn candidates(keys: &[u8], out: &mut [u8]) -> Result<usize, Refusal>
 pub fn candidate_count(keys: &[u8]) -> u32
     ensures { result ≡ class_count (class_set keys.now) }
 {
-    let mut order = [0u8; 12];
-    let found = find(keys, &mut order);
-    u32::count_ones(found.set)
+    Classes::of(keys).set().count_ones()
 }

@@ -14,24 +14,18 @@ const LAST_KEY: u8 = 127;
 pub fn check_keys(codes: &[u8]) -> Result<(), Refusal>
     ensures { result ≡ keys_checked codes.now }
 {
-    let mut i = 0;
-    while i < codes.len() {
-        if codes[i] > LAST_KEY {
-            return Err(Refusal::NotAKey(i));
-        }
-        i += 1;
+    match codes.iter().position(|&code| code > LAST_KEY) {
+        Some(place) => Err(Refusal::NotAKey(place)),
+        None => Ok(()),
     }
-    Ok(())
 }
 
 // The candidates of a list of keys, a line each, where every code is one, with the names that are asked for.
 pub fn candidates_strict_in(names: Names, codes: &[u8], out: &mut [u8]) -> Result<usize, Refusal>
     ensures { Answered (strict_reply (table_of names) codes.now) out.old result out.new }
 {
-    match check_keys(codes) {
-        Err(why) => Err(why),
-        Ok(()) => candidates_in(names, codes, out),
-    }
+    check_keys(codes)?;
+    candidates_in(names, codes, out)
 }
 
 // The same with the flat names.
