@@ -1,8 +1,11 @@
 // The classes of a list of MIDI keys, and a set of classes seen from another root, as in the Rust's `inference/mod.rs`.
-ghost use Rattle.std.specs.Prelude.{◌≡◌, ◌%◌, ◌<◌, ◌≤◌, ℕ, List, length, take, slice_get};
+ghost use Rattle.std.specs.Prelude.{◌≡◌, true, ◌%◌, ◌<◌, ◌≤◌, ℕ, List, length, take, slice_get};
+ghost use Rattle.intervals.specs.Sets.{has, is_rooted};
 ghost use Rattle.candidates.specs.Keys.{seen_from, firsts};
+ghost use Rattle.candidates.specs.Candidates.{chord};
 ghost use Rattle.candidates.specs.private.Classes.{set_of, Within, Listed};
 
+use crate::parts::Candidate;
 use std::marker::Model;
 
 const CLASSES: u32 = 12;
@@ -60,6 +63,19 @@ impl Classes {
         ensures { result ≡ slice_get self.now number }
     {
         self.as_slice().get(number).map(|&class| u32::from(class))
+    }
+
+    // A class of the list as a root: the list's set seen from it, over a bass or none.
+    pub(crate) fn chord(&self, bass: Option<u32>, root: u32) -> Candidate
+        requires { (root < 12) × (has (set_of self.now) root ≡ true) }
+        ensures chord { result ≡ chord (set_of self.now) bass root }
+        ensures rooted { is_rooted result.set ≡ true }
+    {
+        Candidate {
+            root,
+            bass,
+            set: seen_from(root, self.set),
+        }
     }
 }
 
