@@ -1,6 +1,6 @@
 // The candidates of a list of keys, a line each.
 ghost use Rattle.std.specs.Prelude.{◌≡◌, true, [], ◌++◌, ◌+◌, ◌≤◌, length};
-ghost use Rattle.answer.specs.Replies.{text as whole, Answered};
+ghost use Rattle.answer.specs.Replies.{text, Answered};
 ghost use Rattle.intervals.specs.Sets.{is_rooted, class_count};
 ghost use Rattle.names.specs.Names.{flats, table_of};
 ghost use Rattle.rules.specs.Suffix.{suffix_of};
@@ -18,54 +18,53 @@ use names::table::{Names, class_name};
 const ROOM: usize = 448;
 
 // A line that is put behind others: its root's name, its suffix, and its bass behind a slash.
-fn push_line(text: &mut Text<ROOM>, names: Names, candidate: Candidate)
+fn push_line(written: &mut Text<ROOM>, names: Names, candidate: Candidate)
     requires rooted { is_rooted candidate.set ≡ true }
-    requires room { length text.old + 80 ≤ 448 }
-    ensures { text.new ≡ text.old ++ line (table_of names) candidate }
+    requires room { length written.old + 80 ≤ ROOM }
+    ensures { written.new ≡ written.old ++ line (table_of names) candidate }
 {
-    text.push(class_name(names, candidate.root));
-    push_suffix(text, candidate.set);
+    written.push(class_name(names, candidate.root));
+    push_suffix(written, candidate.set);
     if let Some(bass) = candidate.bass {
-        text.push_byte(b'/');
-        text.push(class_name(names, bass));
+        written.push_byte(b'/');
+        written.push(class_name(names, bass));
     }
-    text.push_byte(b'\n');
+    written.push_byte(b'\n');
 }
 
-fn push_suffix(text: &mut Text<ROOM>, set: u32)
+fn push_suffix(written: &mut Text<ROOM>, set: u32)
     requires rooted { is_rooted set ≡ true }
-    requires room { length text.old + 72 ≤ 448 }
-    ensures { text.new ≡ text.old ++ suffix_of set }
-{
-}
+    requires room { length written.old + 72 ≤ ROOM }
+    ensures { written.new ≡ written.old ++ suffix_of set }
+{}
 
 // The candidates of the classes of a list, in their order.
-fn push_lines(text: &mut Text<ROOM>, names: Names, classes: &Classes)
-    requires { text.old ≡ [] }
-    ensures { text.new ≡ lines (table_of names) (chords (set_of classes.now) classes.now) }
+fn push_lines(written: &mut Text<ROOM>, names: Names, classes: &Classes)
+    requires { written.old ≡ [] }
+    ensures { written.new ≡ lines (table_of names) (chords (set_of classes.now) classes.now) }
 {
     let Some((&first, rest)) = classes.as_slice().split_first() else {
         return;
     };
     let first = u32::from(first);
-    push_line(text, names, classes.chord(None, first));
+    push_line(written, names, classes.chord(None, first));
     for &class in rest {
-        push_line(text, names, classes.chord(Some(first), u32::from(class)));
+        push_line(written, names, classes.chord(Some(first), u32::from(class)));
     }
 }
 
 // The candidates of a list of keys, a line each, with the names that are asked for.
 pub fn candidates_in(names: Names, keys: &[u8], out: &mut [u8]) -> Result<usize, Refusal>
-    ensures { Answered (whole (candidates_of (table_of names) keys.now)) out.old result out.new }
+    ensures { Answered (text (candidates_of (table_of names) keys.now)) out.old result out.new }
 {
-    let mut text = Text::new();
-    push_lines(&mut text, names, &Classes::of(keys));
-    text.give(out)
+    let mut written = Text::new();
+    push_lines(&mut written, names, &Classes::of(keys));
+    written.give(out)
 }
 
 // The candidates with the flat names, which are those of the Rust.
 pub fn candidates(keys: &[u8], out: &mut [u8]) -> Result<usize, Refusal>
-    ensures { Answered (whole (candidates_of flats keys.now)) out.old result out.new }
+    ensures { Answered (text (candidates_of flats keys.now)) out.old result out.new }
 {
     candidates_in(Names::Flats, keys, out)
 }

@@ -9,7 +9,7 @@ use Rattle.candidates.proofs.Heard.{set_of_firsts}
 use Rattle.candidates.proofs.lines.candidates_in.Goals as goal
 use Rattle.candidates.proofs.lines.candidates_in.Goals.{After-push_lines}
 
-written : (c : After-push_lines) → c.push_lines.new.text ≡ candidates_of (table_of c.args.names) c.args.keys.now
+written : (c : After-push_lines) → c.push_lines.new.written ≡ candidates_of (table_of c.args.names) c.args.keys.now
 unfolding candidates_of chords_of
 written c =
     c.push_lines.ensures ∙ ap (λ (l : List ℕ). lines (table_of c.args.names) (chords (set_of l) l)) c.of.ensures

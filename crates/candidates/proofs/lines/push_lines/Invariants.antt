@@ -7,7 +7,7 @@ use Rattle.candidates.proofs.lines.push_lines.Given as goal
 
 abbrev pub invariant-loop-class : goal.invariant-loop-class
 invariant-loop-class l = record {
-  written : l.text ≡ line (table_of l.names) (chord (set_of l.classes) None l.first)
+  written : l.written ≡ line (table_of l.names) (chord (set_of l.classes) None l.first)
       ++ lines (table_of l.names) (map (chord (set_of l.classes) (Some l.first)) (take l.class-index l.rest));
-  few : length l.text ≤ 33 * (l.class-index + 1);
+  few : length l.written ≤ 33 * (l.class-index + 1);
 }

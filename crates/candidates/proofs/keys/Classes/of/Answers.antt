@@ -42,10 +42,10 @@ loop-key-preserved c = let h = c.loop-key in
     let key = get_or c.args.keys.now h.key-index 0 in
     elim c.if-set-class-eq0.branch [
       | then-set-class-eq0 w ↦
-        rw (w.order-is, w.set-is, w.count-is, bit_held (key_class key) (omega arith))
-            (found_new _ _ _ _ _ (omega arith) h.invariant (missing _ _ w.if-set-class-eq0.true))
+          rw (w.order-is, w.set-is, w.count-is, bit_held (key_class key) (omega arith))
+          (found_new _ _ _ _ _ (omega arith) h.invariant (missing _ _ w.if-set-class-eq0.true))
       | else-set-class-eq0 w ↦
-        rw (w.order-is, w.set-is, w.count-is) (found_old _ _ _ _ _ (omega arith) h.invariant (present _ _ w.if-set-class-eq0.false))
+          rw (w.order-is, w.set-is, w.count-is) (found_old _ _ _ _ _ (omega arith) h.invariant (present _ _ w.if-set-class-eq0.false))
     ]
 
 pub invariant_of-result : goal.invariant_of-result
