@@ -3,7 +3,6 @@ ghost use Rattle.std.specs.Prelude.{◌≡◌, true, [], ◌++◌, ◌+◌, ◌�
 ghost use Rattle.answer.specs.Replies.{text, Answered};
 ghost use Rattle.intervals.specs.Sets.{is_rooted, class_count};
 ghost use Rattle.names.specs.Names.{flats, table_of};
-ghost use Rattle.rules.specs.Suffix.{suffix_of};
 ghost use Rattle.candidates.specs.Keys.{class_set};
 ghost use Rattle.candidates.specs.Candidates.{chords, line, lines, candidates_of};
 ghost use Rattle.candidates.specs.private.Classes.{set_of};
@@ -12,6 +11,7 @@ use crate::keys::Classes;
 use crate::parts::Candidate;
 use answer::refusal::Refusal;
 use answer::text::Text;
+use inference::normalize::push_suffix;
 use names::table::{Names, class_name};
 
 // Twelve lines of at most 33 bytes, and what a suffix wants free behind the last name.
@@ -31,12 +31,6 @@ fn push_line(written: &mut Text<ROOM>, names: Names, candidate: Candidate)
     }
     written.push_byte(b'\n');
 }
-
-fn push_suffix(written: &mut Text<ROOM>, set: u32)
-    requires rooted { is_rooted set ≡ true }
-    requires room { length written.old + 72 ≤ ROOM }
-    ensures { written.new ≡ written.old ++ suffix_of set }
-{}
 
 // The candidates of the classes of a list, in their order.
 fn push_lines(written: &mut Text<ROOM>, names: Names, classes: &Classes)

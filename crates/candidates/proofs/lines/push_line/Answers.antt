@@ -1,10 +1,11 @@
 -- `candidates::lines::push_line` meets its contract: the parts of a line, one behind the other.
-use Rattle.answer.proofs.Kit.{◌≡◌, refl, sym, ap, append-nil, ◌∙◌, append_assoc, [], ◌∷◌, ◌++◌, List, ℕ, ◌+◌, ◌≤◌, ◌<◌, arith, length, length-append, Some, None}
+use Rattle.answer.proofs.Kit.{◌≡◌, sym, ap, append-nil, ◌∙◌, append_assoc, [], ◌∷◌, ◌++◌, List, ℕ, ◌+◌, ◌≤◌, ◌<◌, arith, length, length-append}
 use Rattle.answer.specs.Words.{bytes}
 use Rattle.names.specs.Names.{table_of, name_of}
 use Rattle.names.proofs.Named.{table_brief, name_length}
 use Rattle.rules.specs.Suffix.{suffix_of}
 use Rattle.rules.proofs.Short.{suffix_reached}
+use Rattle.inference.proofs.Puts.{with_set}
 use Rattle.candidates.specs.Candidates.{over, slash, symbol, line}
 use Rattle.candidates.proofs.Listed.{put_name, put_byte, slash_length}
 use Rattle.candidates.proofs.lines.push_line.Goals as goal
@@ -13,16 +14,16 @@ use Rattle.candidates.proofs.lines.push_line.Goals.{After-push, After-push_byte-
 named : (c : After-push) → c.push.new.self ≡ c.args.written.now ++ name_of (table_of c.args.names) c.args.candidate.root
 named c = put_name _ _ _ c.args.names _ _ c.class_name.ensures (omega (arith, c.requires.room)) c.push.ensures
 
-pub push_suffix-requires-clause-room : goal.push_suffix-requires-clause-room
-push_suffix-requires-clause-room c =
-    rw (named (goal.at.push_suffix-requires-clause-room c).After-push)
-    (simp length-append (omega (arith, c.requires.room, name_length (table_of c.args.names) (table_brief c.args.names) c.args.candidate.root)))
-
 -- the name and the suffix
-chorded : (c : After-push_byte-2) → c.push_suffix.new.written ≡ c.args.written.now ++ name_of (table_of c.args.names) c.args.candidate.root ++ suffix_of c.args.candidate.set
-chorded c = c.push_suffix.ensures ∙ ap (λ (t : List ℕ). t ++ suffix_of c.args.candidate.set) (named (goal.at.returns c).After-push)
+chorded : (c : After-push_byte-2) → c.push_suffix.new.text ≡ c.args.written.now ++ name_of (table_of c.args.names) c.args.candidate.root ++ suffix_of c.args.candidate.set
+chorded c =
+    let name = named (goal.at.returns c).After-push in
+    let room : length c.push.new.self + 72 ≤ 448 =
+    rw name (simp length-append (omega (arith, c.requires.room, name_length (table_of c.args.names) (table_brief c.args.names) c.args.candidate.root))) in
+    c.push_suffix.ensures ∙ with_set c.args.candidate.set 448 c.push.new.self c.requires.rooted room
+    ∙ ap (λ (t : List ℕ). t ++ suffix_of c.args.candidate.set) name
 
-chorded_length : (c : After-push_byte-2) → length c.push_suffix.new.written ≤ length c.args.written.now + 29
+chorded_length : (c : After-push_byte-2) → length c.push_suffix.new.text ≤ length c.args.written.now + 29
 chorded_length c =
     rw (chorded c) (simp length-append (omega (
       arith,
@@ -31,7 +32,7 @@ chorded_length c =
     )))
 
 -- and the bass, if there is one
-slashed : (c : After-push_byte-2) → c.match-candidate.written ≡ c.push_suffix.new.written ++ slash (table_of c.args.names) c.args.candidate.bass
+slashed : (c : After-push_byte-2) → c.match-candidate.written ≡ c.push_suffix.new.text ++ slash (table_of c.args.names) c.args.candidate.bass
 unfolding over bytes
 slashed c =
     let long = chorded_length c in
@@ -42,8 +43,8 @@ slashed c =
           rw w.in-Some.is
           (w.written-is ∙ put_name _ _ _ c.args.names w.in-Some.bass _ w.class_name-in-Some.ensures room w.push-in-Some.ensures
           ∙ ap (λ (t : List ℕ). t ++ name_of (table_of c.args.names) w.in-Some.bass) slash_put
-          ∙ append_assoc c.push_suffix.new.written (47 ∷ []) (name_of (table_of c.args.names) w.in-Some.bass))
-      | in_default w ↦ rw w.in_default.is (w.written-is ∙ sym (append-nil c.push_suffix.new.written))
+          ∙ append_assoc c.push_suffix.new.text (47 ∷ []) (name_of (table_of c.args.names) w.in-Some.bass))
+      | in_default w ↦ rw w.in_default.is (w.written-is ∙ sym (append-nil c.push_suffix.new.text))
     ]
 
 pub returns : goal.returns

@@ -1,5 +1,5 @@
 -- `candidates::lines::push_lines` meets its contract. The loop's invariant: the lines of the first class and of those before this one are written.
-use Rattle.answer.proofs.Kit.{◌≡◌, sym, ap, ap₂, subst, ◌∙◌, true, List, [], ◌∷◌, ◌++◌, append-nil, append_assoc, map, flat_map, ℕ, suc, ◌<◌, ◌≤◌, suc-le-suc, arith, length, length-append, get_or, take, take-length, Some, None}
+use Rattle.answer.proofs.Kit.{◌≡◌, sym, ap, ap₂, subst, ◌∙◌, List, ◌∷◌, ◌++◌, append-nil, append_assoc, map, flat_map, ℕ, suc, suc-le-suc, arith, length, length-append, get_or, take, take-length, Some, None}
 use Rattle.names.specs.Names.{table_of}
 use Rattle.names.proofs.Named.{table_brief}
 use Rattle.candidates.specs.Candidates.{chord, chords, line, lines}
