@@ -1,5 +1,5 @@
 -- `strict::entry::candidates_strict_in` meets its contract: by what the check says.
-use Rattle.answer.proofs.Kit.{◌≡◌, sym, ap, subst, ◌∙◌, Ok, Err}
+use Rattle.answer.proofs.Kit.{◌≡◌, sym, subst, Ok, Err}
 use Rattle.std.proofs.lemmas.Result.{err_from_is_err_and}
 use Rattle.answer.specs.Replies.{Reply, Answered}
 use Rattle.answer.proofs.Rooms.{refused_by}
