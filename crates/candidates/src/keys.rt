@@ -92,7 +92,8 @@ fn in_octave(class: u32) -> u32
 
 // A set seen from one of its classes, by a walk over the twelve: its class k is the one k above the root.
 pub(crate) fn seen_from(root: u32, set: u32) -> u32
-    requires { (root < 12) × (set < 4096) }
+    requires class { root < 12 }
+    requires classes { set < 4096 }
     ensures { result ≡ seen_from root set }
 {
     let mut seen: u32 = 0;

@@ -37,10 +37,10 @@ fn push_lines(written: &mut Text<ROOM>, names: Names, classes: &Classes)
     requires { written.old ≡ [] }
     ensures { written.new ≡ lines (table_of names) (chords (set_of classes.now) classes.now) }
 {
-    let Some((&first, rest)) = classes.as_slice().split_first() else {
+    let Some((&head, rest)) = classes.as_slice().split_first() else {
         return;
     };
-    let first = u32::from(first);
+    let first = u32::from(head);
     push_line(written, names, classes.chord(None, first));
     for &class in rest {
         push_line(written, names, classes.chord(Some(first), u32::from(class)));
