@@ -1,3 +1,4 @@
+pub mod FirstPlace
 pub mod FirstAbove
 pub mod AsLong
 pub mod Determined

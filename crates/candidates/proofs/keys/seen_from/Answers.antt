@@ -18,19 +18,19 @@ module _ (root s seen k class : ℕ) (h : k < 12) (e : seen ≡ seen_below k roo
 
 pub loop-k-init : goal.loop-k-init
 unfolding set_below
-loop-k-init c = (omega arith, refl)
+loop-k-init c = refl
 
 pub overflow_shr-seen : goal.overflow_shr-seen
 overflow_shr-seen c = omega (arith, c.in_octave.ensures)
 
 pub overflow_add-seen : goal.overflow_add-seen
-overflow_add-seen c = record { fits = omega (arith, small _ _ _ _ _ (omega arith) c.loop-k.invariant.1 c.in_octave.ensures) }
+overflow_add-seen c = record { fits = omega (arith, small _ _ _ _ _ (omega arith) c.loop-k.invariant c.in_octave.ensures) }
 
 pub loop-k-preserved : goal.loop-k-preserved
-loop-k-preserved c = (omega arith, next _ _ _ _ _ (omega arith) c.loop-k.invariant.1 c.in_octave.ensures)
+loop-k-preserved c = next _ _ _ _ _ (omega arith) c.loop-k.invariant c.in_octave.ensures
 
 pub returns : goal.returns
 unfolding seen_from set_where
 returns c = let h = c.loop-k in
     let end : h.k ≡ 12 = omega arith in
-    h.invariant.1 ∙ ap (λ (k : ℕ). seen_below k c.args.root c.args.set) end
+    h.invariant ∙ ap (λ (k : ℕ). seen_below k c.args.root c.args.set) end
