@@ -1,6 +1,6 @@
--- `signatures::line::listing_in` meets its contract.
+-- `signatures::line::Listings::of` meets its contract.
 use Rattle.answer.proofs.Kit.{refl}
-use Rattle.signatures.proofs.line.listing_in.Goals as goal
+use Rattle.signatures.proofs.line.Listings.of.Goals as goal
 
 pub returns-in-Flats : goal.returns-in-Flats
 returns-in-Flats c = rw c.in-Flats.is refl
