@@ -1,16 +1,15 @@
 -- What a host gets of a call that writes, and the chord record that it gives: paper 01, "Ported, added, left behind" ("the count of bytes
 -- written"; "a lead above 255 means none"), with the numbers of crate `host`.
 use Rattle.answer.specs.declared.refusal.Refusal.{Refusal}
-use Rattle.std.specs.Prelude.{◌≡◌, cond, List, ℕ, leb, ℤ, pos, Option, Some, None, Result, Ok, Err}
+use Rattle.std.specs.Prelude.{◌≡◌, cond, List, ℕ, leb, ℤ, pos, Option, Some, None, Result}
 use Rattle.answer.specs.Replies.{Reply, output_of, room_after}
-use Rattle.host.specs.Numbers.{refusal_number, names_number, bass_from}
+use Rattle.host.specs.Numbers.{answer_number, names_number, bass_from}
 use Rattle.signatures.specs.declared.line.Part.{Part}
 use Rattle.voicings.specs.declared.voicing.Chord.{Chord}
 
 -- "the count of bytes written", or the refusal
 abbrev pub output_number : Result ℕ Refusal → ℤ
-output_number (Ok n) = pos n
-output_number (Err why) = refusal_number why
+output_number = answer_number pos
 
 -- a number and a room at exit are what a reply and the room at entry say
 abbrev pub HostAnswered : Reply → List ℕ → ℤ → List ℕ → Type 0

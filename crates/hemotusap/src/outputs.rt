@@ -11,8 +11,5 @@ pub(crate) fn written(output: Result<usize, Refusal>) -> i64
     requires { Fits output }
     ensures { result ≡ output_number output }
 {
-    match output {
-        Ok(count) => count as i64,
-        Err(why) => refused(why),
-    }
+    output.map_or_else(refused, |count| count as i64)
 }

@@ -19,7 +19,7 @@ use host::numbers::{candidate_number, names_number};
 use inference::normalize::suffix;
 use listing::search::listing;
 use names::table::Names;
-use signatures::line::line_part;
+use signatures::line::Listings;
 use spelling::tones::tones;
 use strict::entry::{candidates_strict, candidates_strict_in};
 
@@ -75,17 +75,16 @@ pub fn hemotusap_candidate_line<'a>(
 ) -> i64
     ensures { PartTold (part_of flat.now sharp.now number fifths) result start.new length.new }
 {
-    let part = line_part(flat, sharp, number, fifths);
+    let part = Listings { flat, sharp }.line_part(number, fifths);
     *start = part.start as u64;
     *length = part.length as u64;
-    let names = part.names;
-    names_number(names)
+    names_number(part.names)
 }
 
 pub fn hemotusap_candidate_count(codes: &[u8]) -> i64
     ensures { result ≡ pos (class_count (class_set codes.now)) }
 {
-    candidate_count(codes) as i64
+    i64::from(candidate_count(codes))
 }
 
 pub fn hemotusap_candidate(codes: &[u8], number: u32) -> i64

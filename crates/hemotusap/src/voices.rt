@@ -9,16 +9,11 @@ use host::numbers::bass_from;
 use voicings::range::{HIGHEST, LOWEST};
 use voicings::voicing::{Chord, voicing};
 
-// The last lead: what is above it is none.
-const LAST_LEAD: u32 = 255;
-
+// A lead above 255 is none.
 fn lead_from(lead: u32) -> Option<u8>
     ensures { result ≡ lead_from lead }
 {
-    if lead > LAST_LEAD {
-        return None;
-    }
-    Some(lead as u8)
+    u8::try_from(lead).ok()
 }
 
 // The voicing of a chord whose keys above the bass are from a lowest to a highest.

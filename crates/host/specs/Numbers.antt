@@ -24,10 +24,14 @@ size_of number (Some place) = 256 * number + place
 abbrev pub refusal_number : Refusal → ℤ
 refusal_number why = minus (size_of (told_of why).number (told_of why).place)
 
+-- an answer's number, or the refusal's
+abbrev pub answer_number : {A : Type 0} → (A → ℤ) → Result A Refusal → ℤ
+answer_number number (Ok x) = number x
+answer_number number (Err why) = refusal_number why
+
 -- "the quality number"
 abbrev pub quality_number : Result ChordQuality Refusal → ℤ
-quality_number (Ok q) = pos (Qualities.quality_number q)
-quality_number (Err why) = refusal_number why
+quality_number = answer_number (λ q. pos (Qualities.quality_number q))
 
 -- "for a note 16 × letter + count + 6 (no accidental counts 0)"
 abbrev pub note_number : Note → ℤ
@@ -35,8 +39,7 @@ note_number n = pos (16 * n.letter + 6) +ℤ count_of n.accidental
 
 -- a note, or the refusal
 abbrev pub note_answer_number : Result Note Refusal → ℤ
-note_answer_number (Ok n) = note_number n
-note_answer_number (Err why) = refusal_number why
+note_answer_number = answer_number note_number
 
 -- "a bass of 15 is none"
 abbrev pub bass_number : Option ℕ → ℕ

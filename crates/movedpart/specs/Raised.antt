@@ -1,5 +1,6 @@
 -- What it is to be raised by an amount: paper 02, Q-14.
-use Rattle.std.specs.Prelude.{◌≡◌, List, ◌++◌, map, ℕ, ◌+◌, ◌%◌, Option, Some, None}
+use Rattle.std.specs.Prelude.{◌≡◌, List, ◌++◌, map, ℕ, ◌+◌, ◌%◌, Option}
+use Rattle.std.specs.Option.{option_map}
 use Rattle.answer.specs.Lines.{ended}
 use Rattle.notes.specs.declared.note.Note.{Note}
 use Rattle.names.specs.Names.{name_of}
@@ -18,8 +19,7 @@ class_raised n class = (class + n) % 12
 
 -- a bass: none is none still
 abbrev pub bass_raised : ℕ → Option ℕ → Option ℕ
-bass_raised n None = None
-bass_raised n (Some class) = Some (class_raised n class)
+bass_raised n = option_map (class_raised n)
 
 -- a candidate: its root and its bass are raised, and the set is the same
 unfoldable pub chord_raised : ℕ → Candidate → Candidate
@@ -35,8 +35,7 @@ line_raised table n c = ended (symbol_raised table n c)
 
 -- the candidate of a number: where there is none, there is none still
 abbrev pub answer_raised : ℕ → Option Candidate → Option Candidate
-answer_raised n (Some c) = Some (chord_raised n c)
-answer_raised n None = None
+answer_raised n = option_map (chord_raised n)
 
 -- "Two lists with the same classes in the same order of first occurrence"
 abbrev pub SameClasses : List ℕ → List ℕ → Type 0

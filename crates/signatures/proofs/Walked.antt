@@ -1,75 +1,80 @@
--- The walk over a text that counts its lines.
---     found_from          what it finds from a byte on: where the line that it is in began, at which byte it is, the bytes from there, and the lines to pass
---     here, next, onward it ends at the LF of the line that is asked for, begins another behind any other LF, and goes on behind any other byte
---     from_0, at_end     from the first byte it finds the line of the number, and behind the last none
-use Rattle.answer.proofs.Kit.{◌≡◌, refl, sym, ap, ap₂, ◌∙◌, Bool, true, false, cond, List, [], ◌∷◌, ◌++◌, flat_map, ℕ, zero, suc, ◌+◌, ◌-◌, add-zero, zero-add, arith, eqb, length, take, length-append, Option, Some, None}
+-- The lines of a text, passed one by one.
+--     found_behind    the line of a number, in a text that begins at a byte of another
+--     here, next      the first LF ends the first line, and the lines behind it are those of the rest
+--     within          it stands in the text
+--     nowhere         a text without one has no line
+use Rattle.answer.proofs.Kit.{◌≡◌, refl, ap, ap₂, ◌∙◌, Bool, true, false, cond, List, [], ◌∷◌, flat_map, ℕ, suc, ◌+◌, ◌<◌, add-zero, arith, eqb, subst, dec_lt, lt-ltb, le-ltb, length, take, drop, length-append, length-take, Option, Some, None}
 use Rattle.answer.specs.Lines.{line_feed, begun_with, lines_of, numbered_in, line_at, ended, line_start}
-use Rattle.signatures.specs.Part.{found_at, found_in}
+use Rattle.signatures.specs.Part.{found_at}
+use Rattle.std.specs.Prelude.{position, ◌==◌, nat_lt, not}
+use Rattle.std.specs.List.{position_or_len}
 
-unfoldable pub found_from : ℕ → ℕ → List ℕ → ℕ → Option (ℕ × ℕ)
-found_from start i [] n = None
-found_from start i (b ∷ more) zero = cond (eqb b line_feed) (Some start (i - start)) (found_from start (i + 1) more zero)
-found_from start i (b ∷ more) (suc n) = cond (eqb b line_feed) (found_from (i + 1) (i + 1) more n) (found_from start (i + 1) more (suc n))
+abbrev pub found_behind : ℕ → List ℕ → ℕ → Option (ℕ × ℕ)
+found_behind start text n = found_at (start + line_start text n) (line_at text n)
 
-pub here : (start i b : ℕ) (more : List ℕ) → eqb b line_feed ≡ true → found_from start i (b ∷ more) 0 ≡ Some start (i - start)
-unfolding found_from
-here start i b more e = rw e refl
+-- where the first LF stands, or behind the last byte
+abbrev first : List ℕ → ℕ
+first text = position_or_len (λ b. b == line_feed) text
 
-pub next : (start i b : ℕ) (more : List ℕ) (n : ℕ) → eqb b line_feed ≡ true → found_from start i (b ∷ more) (suc n) ≡ found_from (i + 1) (i + 1) more n
-unfolding found_from
-next start i b more n e = rw e refl
+module _ (b : ℕ) (more : List ℕ) where
+  abbrev k : ℕ
+  k = first more
 
-pub onward : (start i b : ℕ) (more : List ℕ) (n : ℕ) → eqb b line_feed ≡ false → found_from start i (b ∷ more) n ≡ found_from start (i + 1) more n
-unfolding found_from
-onward start i b more zero e = rw e refl
-onward start i b more (suc n) e = rw e refl
+  by_feed : (is : Bool) → Dec (k < length more) → lines_of more ≡ cond (nat_lt k (length more)) (take k more ∷ lines_of (drop (k + 1) more)) []
+      → cond is ([] ∷ lines_of more) (begun_with b (lines_of more))
+      ≡ cond (nat_lt (cond (not is) (1 + k) 0) (suc (length more)))
+      (take (cond (not is) (1 + k) 0) (b ∷ more) ∷ lines_of (drop (cond (not is) (1 + k) 0 + 1) (b ∷ more))) []
+  unfolding begun_with
+  by_feed true d e = rw (lt-ltb 0 (suc (length more)) (omega arith)) refl
+  by_feed false (yes less) e =
+      let one : suc k ≡ 1 + k = omega arith in
+      let two : suc (k + 1) ≡ 1 + k + 1 = omega arith in
+      rw (lt-ltb (1 + k) (suc (length more)) (omega arith)) (
+      ap (begun_with b) (rw (lt-ltb k (length more) less) at e)
+      ∙ ap₂ (λ (x y : ℕ). take x (b ∷ more) ∷ lines_of (drop y (b ∷ more))) one two)
+  by_feed false (no over) e =
+      rw (le-ltb (1 + k) (suc (length more)) (omega arith)) (ap (begun_with b) (rw (le-ltb k (length more) (omega arith)) at e))
 
-pub at_end : (start i n : ℕ) → found_from start i [] n ≡ None
-unfolding found_from
-at_end start i n = refl
+first_line : (text : List ℕ) → lines_of text ≡ cond (nat_lt (first text) (length text)) (take (first text) text ∷ lines_of (drop (first text + 1) text)) []
+unfolding lines_of
+first_line [] = refl
+first_line (b ∷ more) = by_feed b more (eqb b line_feed) (dec_lt (first more) (length more)) (first_line more)
 
--- the same over the lines that begin at a byte, the first of them a part of one that began before it
-unfoldable passed : ℕ → ℕ → List (List ℕ) → ℕ → Option (ℕ × ℕ)
-passed start i [] n = None
-passed start i (line ∷ more) zero = Some start (i + length line - start)
-passed start i (line ∷ more) (suc n) = passed (i + length line + 1) (i + length line + 1) more n
+-- a text's lines, by where its first LF stands
+abbrev LinesBy : List ℕ → Option ℕ → Type 0
+LinesBy text None = lines_of text ≡ []
+LinesBy text (Some k) = (k < length text) × (lines_of text ≡ take k text ∷ lines_of (drop (k + 1) text))
 
-begun : (start i b : ℕ) (lines : List (List ℕ)) (n : ℕ) → passed start (i + 1) lines n ≡ passed start i (begun_with b lines) n
-unfolding passed begun_with
-begun start i b [] n = refl
-begun start i b (line ∷ more) zero = let e : i + 1 + length line ≡ i + suc (length line) = omega arith in ap (λ (x : ℕ). Some start (x - start)) e
-begun start i b (line ∷ more) (suc n) = let e : i + 1 + length line ≡ i + suc (length line) = omega arith in ap (λ (x : ℕ). passed (x + 1) (x + 1) more n) e
-
-by_lines : (start i : ℕ) (l : List ℕ) (n : ℕ) → found_from start i l n ≡ passed start i (lines_of l) n
-unfolding found_from passed lines_of
-by_lines start i [] n = refl
-by_lines start i (b ∷ more) zero = by_feed (eqb b line_feed) (by_lines start (i + 1) more zero)
+lines_by : (text : List ℕ) (at : Option ℕ) → position (λ b. b == line_feed) text ≡ at → LinesBy text at
+lines_by text at e = subst (LinesBy text) e (by_first (dec_lt (first text) (length text)) (first_line text))
   where
-    by_feed : (is : Bool) → found_from start (i + 1) more zero ≡ passed start (i + 1) (lines_of more) zero
-        → cond is (Some start (i - start)) (found_from start (i + 1) more zero) ≡ passed start i (cond is ([] ∷ lines_of more) (begun_with b (lines_of more))) zero
-    by_feed true later = ap (λ (x : ℕ). Some start (x - start)) (sym (add-zero i))
-    by_feed false later = later ∙ begun start i b (lines_of more) zero
-by_lines start i (b ∷ more) (suc n) = by_feed (eqb b line_feed) (by_lines (i + 1) (i + 1) more n) (by_lines start (i + 1) more (suc n))
-  where
-    by_feed : (is : Bool) → found_from (i + 1) (i + 1) more n ≡ passed (i + 1) (i + 1) (lines_of more) n
-        → found_from start (i + 1) more (suc n) ≡ passed start (i + 1) (lines_of more) (suc n)
-        → cond is (found_from (i + 1) (i + 1) more n) (found_from start (i + 1) more (suc n))
-        ≡ passed start i (cond is ([] ∷ lines_of more) (begun_with b (lines_of more))) (suc n)
-    by_feed true other later = other ∙ ap (λ (x : ℕ). passed (x + 1) (x + 1) (lines_of more) n) (sym (add-zero i))
-    by_feed false other later = later ∙ begun start i b (lines_of more) (suc n)
+    by_first : Dec (first text < length text) → lines_of text ≡ cond (nat_lt (first text) (length text)) (take (first text) text ∷ lines_of (drop (first text + 1) text)) []
+        → LinesBy text (cond (nat_lt (first text) (length text)) (Some (first text)) None)
+    by_first (yes less) e = rw (lt-ltb (first text) (length text) less) (less, rw (lt-ltb (first text) (length text) less) at e)
+    by_first (no over) e = rw (le-ltb (first text) (length text) (omega arith)) (rw (le-ltb (first text) (length text) (omega arith)) at e)
 
--- where the first of the lines begins at the byte itself
-by_start : (i : ℕ) (lines : List (List ℕ)) (n : ℕ) → passed i i lines n ≡ found_at (i + length (flat_map ended (take n lines))) (numbered_in lines n)
-unfolding passed numbered_in flat_map
-by_start i [] n = refl
-by_start i (line ∷ more) zero = let e : i + length line - i ≡ length line = omega arith in ap₂ Some (sym (add-zero i)) e
-by_start i (line ∷ more) (suc n) =
-    let before = flat_map ended (take n more) in
-    let e : i + length line + 1 + length before ≡ i + length (ended line ++ before) = simp length-append (omega arith) in
-    by_start (i + length line + 1) more n ∙ ap (λ (x : ℕ). found_at x (numbered_in more n)) e
+module _ (start : ℕ) (text : List ℕ) where
+  pub nowhere : (n : ℕ) → position (λ b. b == line_feed) text ≡ None → found_behind start text n ≡ None
+  unfolding line_at numbered_in
+  nowhere n e = ap (λ (lines : List (List ℕ)). found_at (start + line_start text n) (numbered_in lines n)) (lines_by text None e)
 
-pub from_0 : (text : List ℕ) (n : ℕ) → found_from 0 0 text n ≡ found_in text n
-unfolding found_in line_at line_start
-from_0 text n =
-    by_lines 0 0 text n ∙ by_start 0 (lines_of text) n
-    ∙ ap (λ (x : ℕ). found_at x (numbered_in (lines_of text) n)) (zero-add (length (flat_map ended (take n (lines_of text)))))
+  module _ (k : ℕ) (e : position (λ b. b == line_feed) text ≡ Some k) where
+    abbrev by : LinesBy text (Some k)
+    by = lines_by text (Some k) e
+
+    pub within : k < length text
+    within = by.0
+
+    its_length : length (take k text) ≡ k
+    its_length = omega (arith, length-take k text, within)
+
+    pub here : found_behind start text 0 ≡ Some (start, k)
+    unfolding line_at line_start numbered_in flat_map
+    here = rw by.1 (ap₂ (λ (x y : ℕ). Some (x, y)) (add-zero start) its_length)
+
+    pub next : (n : ℕ) → found_behind (start + (k + 1)) (drop (k + 1) text) n ≡ found_behind start text (suc n)
+    unfolding line_at line_start numbered_in flat_map
+    next n =
+        let passed : start + (k + 1) + line_start (drop (k + 1) text) n ≡ start + length (flat_map ended (take k text ∷ take n (lines_of (drop (k + 1) text)))) =
+        simp length-append (omega (arith, its_length)) in
+        rw by.1 (ap (λ (x : ℕ). found_at x (numbered_in (lines_of (drop (k + 1) text)) n)) passed)

@@ -1,25 +1,24 @@
 // The line of a number in a text of any bytes.
-ghost use Rattle.std.specs.Prelude.{◌≡◌};
+ghost use Rattle.std.specs.Prelude.{◌≡◌, ◌==◌, position};
+ghost use Rattle.answer.specs.Lines.{line_feed};
 ghost use Rattle.signatures.specs.Part.{found_in};
 
 const LINE_FEED: u8 = 10;
+
+// How many bytes a text has before its first LF.
+fn first_length(text: &[u8]) -> Option<usize>
+    ensures { result ≡ position (λ b. b == line_feed) text.now }
+{
+    text.iter().position(|b| *b == LINE_FEED)
+}
 
 // Where a line begins and how many bytes it has, its LF not counted.
 pub(crate) fn line_in(text: &[u8], number: u32) -> Option<(usize, usize)>
     ensures { result ≡ found_in text.now number }
 {
     let mut start = 0;
-    let mut left = number;
-    let mut i = 0;
-    while i < text.len() {
-        if text[i] == LINE_FEED {
-            if left == 0 {
-                return Some((start, i - start));
-            }
-            left -= 1;
-            start = i + 1;
-        }
-        i += 1;
+    for _ in 0..number {
+        start += first_length(&text[start..])? + 1;
     }
-    None
+    Some((start, first_length(&text[start..])?))
 }

@@ -1,7 +1,7 @@
 // Which of two listings a key signature calls for, and a candidate's line in it.
 ghost use Rattle.std.specs.Prelude.{◌≡◌};
 ghost use Rattle.signatures.specs.Signature.{names_in};
-ghost use Rattle.signatures.specs.Part.{listing_in, part_at, part_of, PartOf};
+ghost use Rattle.signatures.specs.Part.{listing_in, part_found, part_of, PartOf};
 
 use crate::found::line_in;
 use names::table::Names;
@@ -22,10 +22,7 @@ pub struct Part {
 fn names_in(fifths: i32) -> Option<Names>
     ensures { result ≡ names_in fifths }
 {
-    if fifths < MOST_FLATS {
-        return None;
-    }
-    if fifths > MOST_SHARPS {
+    if fifths < MOST_FLATS || fifths > MOST_SHARPS {
         return None;
     }
     if fifths > 0 {
@@ -34,55 +31,53 @@ fn names_in(fifths: i32) -> Option<Names>
     Some(Names::Flats)
 }
 
-// The line that was found in the listing with these names; where none was, the empty part at the end of the flat listing.
-fn part_at(names: Names, end: usize, found: Option<(usize, usize)>) -> Part
-    ensures { result ≡ part_at names end found }
-{
-    match found {
-        Some((start, length)) => Part {
+// Two listings of one list of keys: with flat names, and with sharp ones.
+#[derive(Clone, Copy)]
+pub struct Listings<'a> {
+    pub flat: &'a [u8],
+    pub sharp: &'a [u8],
+}
+
+impl<'a> Listings<'a> {
+    // The one with these names.
+    fn of(self, names: Names) -> &'a [u8]
+        ensures { result ≡ listing_in names self.entry.flat self.entry.sharp }
+    {
+        match names {
+            Names::Flats => self.flat,
+            Names::Sharps => self.sharp,
+        }
+    }
+
+    // A candidate's line in the names that the key calls for, where the key is one and the candidate is listed.
+    fn found(self, number: u32, fifths: i32) -> Option<Part>
+        ensures { result ≡ part_found self.entry.flat.now self.entry.sharp.now number fifths }
+    {
+        let names = names_in(fifths)?;
+        let (start, length) = line_in(self.of(names), number)?;
+        Some(Part {
             names,
             start,
             length,
-        },
-        None => Part {
+        })
+    }
+
+    // Where a candidate's line stands; where there is none, the empty part at the end of the flat listing.
+    pub fn line_part(self, number: u32, fifths: i32) -> Part
+        ensures { result ≡ part_of self.entry.flat.now self.entry.sharp.now number fifths }
+    {
+        self.found(number, fifths).unwrap_or(Part {
             names: Names::Flats,
-            start: end,
+            start: self.flat.len(),
             length: 0,
-        },
+        })
     }
-}
 
-// The listing with these names.
-fn listing_in<'a>(names: Names, flat: &'a [u8], sharp: &'a [u8]) -> &'a [u8]
-    ensures { result ≡ listing_in names flat.entry sharp.entry }
-{
-    match names {
-        Names::Flats => return flat,
-        Names::Sharps => return sharp,
+    // The line itself, in the caller's own memory.
+    pub fn line(self, number: u32, fifths: i32) -> &'a [u8]
+        ensures { PartOf (part_of self.entry.flat.now self.entry.sharp.now number fifths) self.entry.flat self.entry.sharp result }
+    {
+        let part = self.line_part(number, fifths);
+        &self.of(part.names)[part.start..part.start + part.length]
     }
-}
-
-// Where a candidate's line stands, by the candidate's number and the key.
-pub fn line_part<'a>(flat: &'a [u8], sharp: &'a [u8], number: u32, fifths: i32) -> Part
-    ensures { result ≡ part_of flat.now sharp.now number fifths }
-{
-    match names_in(fifths) {
-        None => part_at(Names::Flats, flat.len(), None),
-        Some(names) => {
-            let listing = listing_in(names, flat, sharp);
-            part_at(names, flat.len(), line_in(listing, number))
-        }
-    }
-}
-
-// The line itself, in the caller's own memory.
-pub fn line<'a>(flat: &'a [u8], sharp: &'a [u8], number: u32, fifths: i32) -> &'a [u8]
-    ensures { PartOf (part_of flat.now sharp.now number fifths) flat.entry sharp.entry result }
-{
-    let part = line_part(flat, sharp, number, fifths);
-    let names = part.names;
-    let start = part.start;
-    let end = start + part.length;
-    let listing = listing_in(names, flat, sharp);
-    &listing[start..end]
 }

@@ -1,12 +1,7 @@
 -- `hemotusap::symbols::hemotusap_candidates_strict_sharp` meets its contract.
-use Rattle.answer.proofs.Kit.{◌∙◌, arith, rules}
-use mir.Syntax.{w64}
-use mir.Facts.{to_z-of_z}
-use Rattle.hemotusap.proofs.Told.{output_fits, told}
+use Rattle.answer.proofs.Kit.{arith}
+use Rattle.hemotusap.proofs.Told.{output_fits}
 use Rattle.hemotusap.proofs.symbols.hemotusap_candidates_strict_sharp.Goals as goal
 
 pub written-requires : goal.written-requires
 written-requires c = output_fits _ _ c.candidates_strict_in.ensures (omega arith)
-
-pub returns : goal.returns
-returns c = told _ _ c.candidates_strict_in.ensures (to_z-of_z {w = w64} (search rules) ∙ c.written.ensures)

@@ -1,9 +1,11 @@
--- `hemotusap::voices::lead_from` meets its contract: by whether it is above 255.
-use Rattle.answer.proofs.Kit.{lt-leb, le-leb}
+-- `hemotusap::voices::lead_from` meets its contract: a lead that eight bits hold is one.
+use Rattle.answer.proofs.Kit.{◌≡◌, ◌∙◌, ℕ, ◌<◌, rules, Result}
+use Rattle.std.specs.Result.{OkIff, result_ok}
+use Rattle.hemotusap.specs.Host.{lead_from}
 use Rattle.hemotusap.proofs.voices.lead_from.Goals as goal
 
-pub returns-then-lead-gt-LAST_LEAD : goal.returns-then-lead-gt-LAST_LEAD
-returns-then-lead-gt-LAST_LEAD c = rw (lt-leb _ _ c.if-lead-gt-LAST_LEAD.true)
+held : {E : Type 0} (lead : ℕ) (r : Result ℕ E) → OkIff r (lead < 256) lead → result_ok r ≡ lead_from lead
+held lead r h = search rules
 
 pub returns : goal.returns
-returns c = rw (le-leb _ _ c.if-lead-gt-LAST_LEAD.false)
+returns c = c.ok.ensures.value ∙ held c.args.lead _ c.try_from.ensures

@@ -1,13 +1,12 @@
--- `host::numbers::quality_number` meets its contract: by the answer's case.
-use Rattle.answer.proofs.Kit.{ap, sym, ◌∙◌, pos, rules}
+-- `host::numbers::quality_number` meets its contract: what the library's method answers is cited, so that another number shows where it differs.
+use Rattle.answer.proofs.Kit.{◌≡◌, ◌∙◌, pos, rules}
 use mir.Syntax.{w64}
 use mir.Facts.{to_z-of_z}
-use Rattle.host.specs.Numbers.{quality_number}
-use Rattle.host.proofs.Wide.{held_pos}
+use Rattle.qualities.specs.Qualities as Qualities
+use Rattle.host.specs.Numbers.{answer_number}
 use Rattle.host.proofs.numbers.quality_number.Goals as goal
 
-pub returns-in-Ok : goal.returns-in-Ok
-returns-in-Ok c = held_pos _ (search rules) ∙ ap pos c.number.ensures ∙ ap quality_number (sym c.in-Ok.is)
-
-pub returns-in-Err : goal.returns-in-Err
-returns-in-Err c = to_z-of_z {w = w64} (search rules) ∙ c.refused.ensures ∙ ap quality_number (sym c.in-Err.is)
+pub returns : goal.returns
+returns c =
+    let told : c.map_or_else.result ≡ answer_number (λ q. pos (Qualities.quality_number q)) c.args.answer = search rules in
+    to_z-of_z {w = w64} (search rules) ∙ told

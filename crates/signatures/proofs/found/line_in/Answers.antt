@@ -1,53 +1,52 @@
--- `signatures::found::line_in` meets its contract. The loop's invariant: what is found from the byte at `i` on is what is found in the whole.
-use Rattle.answer.proofs.Kit.{◌≡◌, sym, ap, ◌∙◌, List, ◌∷◌, ℕ, suc, ◌+◌, ◌-◌, ◌<◌, add-one, arith, length, drop, get_or, drop-cons, drop-length, eq-eqb, ne_eqb, Some}
-use Rattle.answer.specs.Lines.{line_feed}
-use Rattle.signatures.proofs.Walked.{found_from, here, next, onward, at_end, from_0}
+-- `signatures::found::line_in` meets its contract. The loop's invariant: what the rest of the text has behind the lines passed is what the whole has.
+use Rattle.answer.proofs.Kit.{◌≡◌, sym, ap, ◌∙◌, List, ℕ, suc, ◌+◌, ◌-◌, ◌≤◌, zero-add, arith, length, length-drop, take, drop, drop-drop, Option, Some, None}
+use Rattle.std.proofs.lemmas.List.{take_all}
+use Rattle.std.specs.Prelude.{position, ◌==◌}
+use Rattle.answer.specs.Lines.{line_feed, line_at, line_start}
+use Rattle.signatures.specs.Part.{found_at, found_in}
+use Rattle.signatures.proofs.Walked.{found_behind, here, next, nowhere, within}
 use Rattle.signatures.proofs.found.line_in.Goals as goal
-use Rattle.signatures.proofs.found.line_in.Goals.{then-text-i-eq-LINE_FEED+else-left-eq0, else-text-i-eq-LINE_FEED}
 
--- at the place of a loop that is not at its end
-module _ (text : List ℕ) (start i : ℕ) (h : i < length text) where
-  turn : drop i text ≡ get_or text i 0 ∷ drop (i + 1) text
-  turn = rw add-one (drop-cons text i 0 h)
+-- the rest of a text from a byte on, as the code takes it, and where its first LF is
+module _ (text : List ℕ) (start : ℕ) (h : start ≤ length text) {at : Option ℕ} (is : at ≡ position (λ b. b == line_feed) (take (length text - start) (drop start text))) where
+  told : (o : Option ℕ) → at ≡ o → position (λ b. b == line_feed) (drop start text) ≡ o
+  told o e = ap (position (λ b. b == line_feed)) (sym (take_all (length text - start) (drop start text) (omega (arith, length-drop start text)))) ∙ sym is ∙ e
 
-  stops : get_or text i 0 ≡ line_feed → found_from start i (drop i text) 0 ≡ Some start (i - start)
-  stops feed = ap (λ (l : List ℕ). found_from start i l 0) turn ∙ here start i _ _ (eq-eqb _ _ feed)
+  ends : (n : ℕ) → at ≡ None → found_behind start (drop start text) n ≡ None
+  ends n e = nowhere start (drop start text) n (told None e)
 
-  passes : (left : ℕ) → get_or text i 0 ≡ line_feed → found_from start i (drop i text) (suc left) ≡ found_from (i + 1) (i + 1) (drop (i + 1) text) left
-  passes left feed = ap (λ (l : List ℕ). found_from start i l (suc left)) turn ∙ next start i _ _ left (eq-eqb _ _ feed)
+  module _ (k : ℕ) (e : at ≡ Some k) where
+    stops : (n : ℕ) → n ≡ 0 → found_behind start (drop start text) n ≡ Some (start, k)
+    stops n last = ap (found_behind start (drop start text)) last ∙ here start (drop start text) k (told (Some k) e)
 
-  goes_on : (left : ℕ) → (get_or text i 0 ≡ line_feed → ⊥) → found_from start i (drop i text) left ≡ found_from start (i + 1) (drop (i + 1) text) left
-  goes_on left other = ap (λ (l : List ℕ). found_from start i l left) turn ∙ onward start i _ _ left (ne_eqb _ _ other)
+    stays : start + (k + 1) ≤ length text
+    stays = omega (arith, length-drop start text, within start (drop start text) k (told (Some k) e))
 
-pub loop-i-init : goal.loop-i-init
-loop-i-init c = (omega arith, omega arith, from_0 _ _)
+    passes : (n m : ℕ) → m ≡ suc n → found_behind (start + (k + 1)) (drop (start + (k + 1)) text) n ≡ found_behind start (drop start text) m
+    passes n m more =
+        ap (λ (t : List ℕ). found_behind (start + (k + 1)) t n) (sym (drop-drop (k + 1) start text))
+        ∙ next start (drop start text) k (told (Some k) e) n ∙ ap (found_behind start (drop start text)) (sym more)
 
-pub overflow_sub-result : goal.overflow_sub-result
-overflow_sub-result c = c.loop-i.invariant.0
+begins : (text : List ℕ) (n m : ℕ) → m ≡ n → found_behind 0 text m ≡ found_in text n
+unfolding found_in
+begins text n m e = ap (found_behind 0 text) e ∙ ap (λ (x : ℕ). found_at x (line_at text n)) (zero-add (line_start text n))
 
-pub returns-then-left-eq0 : goal.returns-then-left-eq0
-returns-then-left-eq0 c = let text = c.args.text.now in
-    let none : c.loop-i.left ≡ 0 = omega arith in
-    sym (stops text c.loop-i.start c.loop-i.i (omega arith) c.if-text-i-eq-LINE_FEED.true) ∙ ap (found_from c.loop-i.start c.loop-i.i (drop c.loop-i.i text)) (sym none) ∙ c.loop-i.invariant.2
+pub loop-init : goal.loop-init
+loop-init c = (omega arith, begins _ _ _ (omega arith))
 
-pub loop-i-preserved : goal.loop-i-preserved
-loop-i-preserved c = let text = c.args.text.now in
-    elim c.if-text-i-eq-LINE_FEED.branch [
-      | then-text-i-eq-LINE_FEED+else-left-eq0 w ↦
-          let some : suc (c.loop-i.left - 1) ≡ c.loop-i.left = omega (arith, w.if-left-eq0.false) in (
-            omega (arith, w.start-is),
-            omega arith,
-            rw (w.start-is, w.left-is) (sym (passes text c.loop-i.start c.loop-i.i (omega arith) (c.loop-i.left - 1) w.if-text-i-eq-LINE_FEED.true)
-                ∙ ap (found_from c.loop-i.start c.loop-i.i (drop c.loop-i.i text)) some ∙ c.loop-i.invariant.2),
-          )
-      | else-text-i-eq-LINE_FEED w ↦ (
-        omega (arith, w.start-is),
-        omega arith,
-        rw (w.start-is, w.left-is) (sym (goes_on text c.loop-i.start c.loop-i.i (omega arith) c.loop-i.left w.if-text-i-eq-LINE_FEED.false) ∙ c.loop-i.invariant.2),
-      )
-    ]
+pub returns-in_err-start : goal.returns-in_err-start
+returns-in_err-start c = c.from_residual.ensures ∙ sym (ends _ _ c.loop.invariant.0 c.first_length.ensures _ (c.in_err-start.was)) ∙ c.loop.invariant.1
+
+pub loop-preserved : goal.loop-preserved
+loop-preserved c = let k = c.in_ok-start.field-0 in let some = c.in_ok-start.was in (
+  stays _ _ c.loop.invariant.0 c.first_length.ensures k some,
+  passes _ _ c.loop.invariant.0 c.first_length.ensures k some _ _ (omega arith) ∙ c.loop.invariant.1,
+)
+
+pub returns-in_err-first_length : goal.returns-in_err-first_length
+returns-in_err-first_length c =
+    c.from_residual-in_err-first_length.ensures ∙ sym (ends _ _ c.loop.invariant.0 c.first_length-2.ensures _ (c.in_err-first_length.was)) ∙ c.loop.invariant.1
 
 pub returns : goal.returns
-returns c = let text = c.args.text.now in
-    let end : c.loop-i.i ≡ length text = omega arith in
-    sym (at_end c.loop-i.start c.loop-i.i c.loop-i.left) ∙ ap (λ (t : List ℕ). found_from c.loop-i.start c.loop-i.i t c.loop-i.left) (sym (ap (λ (n : ℕ). drop n text) end ∙ drop-length text)) ∙ c.loop-i.invariant.2
+returns c =
+    sym (stops _ _ c.loop.invariant.0 c.first_length-2.ensures c.in_ok-first_length.field-0 (c.in_ok-first_length.was) _ (omega arith)) ∙ c.loop.invariant.1

@@ -7,6 +7,7 @@ use Rattle.answer.proofs.Between.{not_below, not_above, inside}
 use Rattle.names.specs.declared.table.Names.TheVariants.{Flats, Sharps}
 use Rattle.signatures.specs.Signature.{is_signature, names_for, names_in}
 use Rattle.signatures.proofs.line.names_in.Goals as goal
+use Rattle.signatures.proofs.line.names_in.Goals.{then-fifths-lt-MOST_FLATS-via-then-fifths-lt-MOST_FLATS, then-fifths-lt-MOST_FLATS-via-else-fifths-lt-MOST_FLATS+then-fifths-gt-MOST_SHARPS}
 
 -- a signed number is held as bits, and what is read back is the number, since it fits
 abbrev held : ℤ → ℤ
@@ -29,10 +30,10 @@ module _ (z : ℤ) (f : SFits w32 z) where
       ∙ by_range true (inside (neg_ℤ (pos 7)) (pos 7) z (rw (to_z-of_z f) at low) (rw (to_z-of_z f) at high))
 
 pub returns-then-fifths-lt-MOST_FLATS : goal.returns-then-fifths-lt-MOST_FLATS
-returns-then-fifths-lt-MOST_FLATS c = too_low _ c.ranges.fifths c.if-fifths-lt-MOST_FLATS.true
-
-pub returns-then-fifths-gt-MOST_SHARPS : goal.returns-then-fifths-gt-MOST_SHARPS
-returns-then-fifths-gt-MOST_SHARPS c = too_high _ c.ranges.fifths c.if-fifths-gt-MOST_SHARPS.true
+returns-then-fifths-lt-MOST_FLATS c = elim c.then-fifths-lt-MOST_FLATS.branch [
+  | then-fifths-lt-MOST_FLATS-via-then-fifths-lt-MOST_FLATS w ↦ too_low _ c.ranges.fifths w.if-fifths-lt-MOST_FLATS.true
+  | then-fifths-lt-MOST_FLATS-via-else-fifths-lt-MOST_FLATS+then-fifths-gt-MOST_SHARPS w ↦ too_high _ c.ranges.fifths w.if-fifths-gt-MOST_SHARPS.true
+]
 
 pub returns-then-fifths-gt0 : goal.returns-then-fifths-gt0
 returns-then-fifths-gt0 c = in_key _ c.ranges.fifths c.if-fifths-lt-MOST_FLATS.false c.if-fifths-gt-MOST_SHARPS.false true c.if-fifths-gt0.true

@@ -1,6 +1,6 @@
--- `host::numbers::names_number` meets its contract.
+-- `signatures::line::Listings::of` meets its contract.
 use Rattle.answer.proofs.Kit.{refl}
-use Rattle.host.proofs.numbers.names_number.Goals as goal
+use Rattle.signatures.proofs.line.Listings.of.Goals as goal
 
 pub returns-in-Flats : goal.returns-in-Flats
 returns-in-Flats c = rw c.in-Flats.is refl
