@@ -15,7 +15,6 @@ use Rattle.intervals.specs.declared.interval.IntDegree.TheVariants as Degree
 use Rattle.notes.proofs.Names.{name_short}
 use Rattle.notes.proofs.Sounding.{move_is}
 use Rattle.spelling.specs.Tones.{tone_of, tone_name}
-use Rattle.spelling.specs.private.Numbers.{numbered_name}
 
 -- a move from a note is not refused
 pub move_given : (n : Note) (semitones degree : ℕ) → is_note n ≡ true → is_move semitones degree ≡ true → get_note_answer n semitones degree ≡ Ok (get_note n semitones degree)
@@ -47,10 +46,3 @@ interval_moves degrees i = moves (semitones_of i) (semitones_few i) (degrees i)
 pub tone_short : (degrees : Interval → IntDegree) (n : Note) (i : Interval) → T (is_short (tone_name degrees n i))
 unfolding tone_name tone_of
 tone_short degrees n i = name_short (tone_of degrees n i) (move_is n (semitones_of i) (numeric_of (degrees i)))
-
--- the word of the move at an interval's semitones and degree is that of its tone
-pub tone_worded : (degrees : Interval → IntDegree) (root : Note) (m : Option Interval) (i : Interval) (d : IntDegree) (semitones degree r : ℕ)
-    → m ≡ Some i → d ≡ degrees i → semitones ≡ semitones_of i → degree ≡ numeric_of d
-    → r ≡ packed (note_name signs (get_note root semitones degree)) → r ≡ packed (numbered_name degrees root m)
-unfolding tone_name tone_of
-tone_worded degrees root m i d semitones degree r is by st number e = rw is (e ∙ rw (st, number, by))
