@@ -1,8 +1,8 @@
--- The row that `tone_row` writes, a space and a tone's name for each interval, for any table of degrees.
+-- The row that `tones` makes, a space and a tone's name for each interval, for any table of degrees.
 --     tone_given     on a note an interval's tone is not refused
 --     turn           a turn of the loop: a space and the next tone
 --     row_some, row_long, given     how long the row is, and its names joined
-use Rattle.answer.proofs.Kit.{◌≡◌, refl, sym, ap, ◌∙◌, true, List, [], ◌∷◌, ◌++◌, append_assoc, ℕ, ◌+◌, ◌*◌, ◌≤◌, arith, cond, length, drop, length-append, lt-ltb, le-leb, Some}
+use Rattle.answer.proofs.Kit.{◌≡◌, refl, sym, ap, ◌∙◌, true, List, [], ◌∷◌, ◌++◌, append_assoc, ℕ, ◌+◌, ◌*◌, ◌≤◌, arith, cond, length, drop, length-append, lt-ltb, le-leb, Ok}
 use Rattle.answer.specs.Words.{bytes, packed}
 use Rattle.answer.specs.Made.{with_byte, with_word}
 use Rattle.answer.proofs.Digits.{short_length}
@@ -10,12 +10,11 @@ use Rattle.answer.proofs.Texts.{word_text}
 use Rattle.intervals.specs.Intervals.{semitones_of, numeric_of}
 use Rattle.intervals.specs.declared.interval.Interval.{Interval}
 use Rattle.intervals.specs.declared.interval.IntDegree.{IntDegree}
-use Rattle.notes.specs.Notes.{is_note}
+use Rattle.notes.specs.Notes.{is_note, get_note_answer}
 use Rattle.notes.specs.NoteText.{signs, note_name}
 use Rattle.notes.specs.declared.note.Note.{Note}
 use Rattle.notes.proofs.Sounding.{move_is}
 use Rattle.spelling.specs.Tones.{tone_of, tone_name, tone_names, spaced, joined}
-use Rattle.spelling.specs.private.Numbers.{if_given, numbered_tone}
 use Rattle.spelling.proofs.Spelled.{move_given, interval_moves, tone_short}
 
 -- the row of some intervals
@@ -27,9 +26,9 @@ abbrev word_of : Note → ℕ
 word_of n = cond (is_note n) (packed (note_name signs n)) 0
 
 module _ (degrees : Interval → IntDegree) (root : Note) where
-  pub tone_given : is_note root ≡ true → (i : Interval) → numbered_tone degrees root (Some i) ≡ Some (tone_of degrees root i)
+  pub tone_given : is_note root ≡ true → (i : Interval) → get_note_answer root (semitones_of i) (numeric_of (degrees i)) ≡ Ok (tone_of degrees root i)
   unfolding tone_of
-  tone_given is i = ap if_given (move_given root (semitones_of i) (numeric_of (degrees i)) is (interval_moves degrees i))
+  tone_given is i = move_given root (semitones_of i) (numeric_of (degrees i)) is (interval_moves degrees i)
 
   word_is : (i : Interval) → word_of (tone_of degrees root i) ≡ packed (tone_name degrees root i)
   unfolding tone_of tone_name

@@ -1,12 +1,10 @@
 -- Laws of tones.
-use Rattle.answer.proofs.Kit.{◌≡◌, ◌∙◌, true, ℕ, T, leb, Option, Some, Ok}
-use Rattle.answer.specs.Words.{packed}
+use Rattle.answer.proofs.Kit.{◌≡◌, true, ℕ, T, leb, Ok}
 use Rattle.answer.proofs.Digits.{is_short}
 use Rattle.answer.proofs.Tests.{is_true, all}
 use Rattle.intervals.specs.Intervals.{intervals, nth, numbered, semitones_of, numeric_of}
 use Rattle.intervals.proofs.Rows.{at_interval}
 use Rattle.notes.specs.Notes.{is_note, is_move, get_note, get_note_answer}
-use Rattle.notes.specs.NoteText.{signs, note_name}
 use Rattle.notes.specs.declared.note.Note.{Note}
 use Rattle.intervals.specs.declared.interval.Interval.{Interval}
 use Rattle.intervals.specs.declared.interval.IntDegree.{IntDegree}
