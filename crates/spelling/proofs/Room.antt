@@ -4,11 +4,12 @@
 --     tones_room_lem   no call's answer has more than 34 bytes
 --     tones_reached    one has 34
 use Rattle.answer.specs.declared.refusal.Refusal.{Refusal}
-use Rattle.answer.proofs.Kit.{◌≡◌, refl, sym, subst, Bool, true, true≢false, false, ◌&&◌, List, [], ◌∷◌, ℕ, zero, suc, ◌+◌, ◌/◌, ◌%◌, ◌^◌, ◌≤◌, arith, T, eqb, leb, eqb→eq, leb→le, length, length-append, Result, Ok, Err}
+use Rattle.answer.specs.declared.refusal.Refusal.TheVariants.{NotASet}
+use Rattle.answer.proofs.Kit.{◌≡◌, refl, sym, subst, Bool, true, true≢false, false, cond, ◌&&◌, List, [], ◌∷◌, ℕ, zero, suc, ◌+◌, ◌/◌, ◌%◌, ◌^◌, ◌≤◌, arith, T, eqb, leb, eqb→eq, leb→le, length, length-append, Result, Ok, Err}
 use Rattle.answer.specs.Words.{bytes}
 use Rattle.answer.specs.Replies.{NotForRoom, AtMost}
 use Rattle.answer.proofs.Tests.{left, right, all}
-use Rattle.intervals.specs.Sets.{is_rooted}
+use Rattle.intervals.specs.Sets.{is_rooted, rooted_answer}
 use Rattle.intervals.specs.Intervals.{nth, numbered, number_of}
 use Rattle.intervals.specs.declared.interval.Interval.{Interval}
 use Rattle.intervals.proofs.Rooted.{at_rooted}
@@ -20,7 +21,7 @@ use Rattle.rules.specs.Classes.{intervals_of}
 use Rattle.rules.proofs.Computed.{classes_computed}
 use Rattle.spelling.specs.Tones.{spelled_by, tone_name, tone_names, spaced, joined, tones_of, tones_on, tones_reply}
 use Rattle.spelling.proofs.Computed.{tones_computed}
-use Rattle.spelling.proofs.Replied.{not_rooted, by_the_note}
+use Rattle.spelling.proofs.Replied.{on_set, by_the_set}
 
 abbrev weights : List ℕ
 weights =
@@ -103,11 +104,12 @@ on_root root s is (Ok n) e = joined_length (tone_names spelled_by n (intervals_o
 on_root root s is (Err why) e = subst NotForRoom (none_in flats root why e) tt
 
 pub tones_room_lem : (root s : ℕ) → AtMost 34 (tones_reply spelled_by root s)
-tones_room_lem root s = by_set (is_rooted s) refl
+unfolding rooted_answer
+tones_room_lem root s = rw (by_the_set spelled_by root s) (by_test (is_rooted s) refl)
   where
-    by_set : (b : Bool) → is_rooted s ≡ b → AtMost 34 (tones_reply spelled_by root s)
-    by_set true e = rw (by_the_note spelled_by root s e (note_in flats root) refl) (on_root root s e (note_in flats root) refl)
-    by_set false e = rw (not_rooted spelled_by root s e) tt
+    by_test : (b : Bool) → is_rooted s ≡ b → AtMost 34 (on_set spelled_by root (cond b (Ok s) (Err NotASet)))
+    by_test true is = on_root root s is (note_in flats root) refl
+    by_test false is = tt
 
 pub tones_reached : length (tones_of spelled_by (flat 4) 4095) ≡ 34
 unfolding tones_computed

@@ -1,75 +1,66 @@
--- The row that `put_tones` writes, a tone for each interval, and what is given of it, for any table of degrees.
---     row_of, row_each     the row, and that it is each interval's tone
---     puts                one tone
---     row_some, row_long, given     how long it is, and its names joined
-use Rattle.answer.proofs.Kit.{◌≡◌, refl, ap, ◌∙◌, List, [], ◌∷◌, ◌++◌, append_assoc, ℕ, zero, suc, ◌+◌, ◌*◌, ◌-◌, ◌≤◌, arith, not-suc-le-zero, T, length, take, drop, length-append, Option, Some, None}
-use Rattle.answer.specs.Words.{bytes, low, packed, place_after, put_at}
-use Rattle.answer.proofs.Digits.{is_short, are_bytes, short_length}
-use Rattle.answer.proofs.Writing.{Puts, no_puts, then_put}
-use Rattle.intervals.specs.Intervals.{numbered}
-use Rattle.notes.specs.declared.note.Note.{Note}
+-- The row that `tones` makes, a space and a tone's name for each interval, for any table of degrees.
+--     tone_given     on a note an interval's tone is not refused
+--     turn           a turn of the loop: a space and the next tone
+--     row_some, row_long, given     how long the row is, and its names joined
+use Rattle.answer.proofs.Kit.{◌≡◌, refl, sym, ap, ◌∙◌, true, List, [], ◌∷◌, ◌++◌, append_assoc, ℕ, ◌+◌, ◌*◌, ◌≤◌, arith, cond, length, drop, length-append, lt-ltb, le-leb, Ok}
+use Rattle.answer.specs.Words.{bytes, packed}
+use Rattle.answer.specs.Made.{with_byte, with_word}
+use Rattle.answer.proofs.Digits.{short_length}
+use Rattle.answer.proofs.Texts.{word_text}
+use Rattle.intervals.specs.Intervals.{semitones_of, numeric_of}
 use Rattle.intervals.specs.declared.interval.Interval.{Interval}
 use Rattle.intervals.specs.declared.interval.IntDegree.{IntDegree}
-use Rattle.rules.specs.Classes.{intervals_in}
-use Rattle.rules.proofs.First.{none_in}
-use Rattle.rules.proofs.Walk.{Each}
-use Rattle.spelling.specs.Tones.{tone_names, spaced, joined}
-use Rattle.spelling.specs.private.Numbers.{numbered_name}
-use Rattle.spelling.proofs.Spelled.{tone_short}
+use Rattle.notes.specs.Notes.{is_note, get_note_answer}
+use Rattle.notes.specs.NoteText.{signs, note_name}
+use Rattle.notes.specs.declared.note.Note.{Note}
+use Rattle.notes.proofs.Sounding.{move_is}
+use Rattle.spelling.specs.Tones.{tone_of, tone_name, tone_names, spaced, joined}
+use Rattle.spelling.proofs.Spelled.{move_given, interval_moves, tone_short}
 
-abbrev pub row_of : (Interval → IntDegree) → Note → ℕ → List ℕ
-row_of degrees root set = spaced (tone_names degrees root (intervals_in set))
+-- the row of some intervals
+abbrev pub row_of : (Interval → IntDegree) → Note → List Interval → List ℕ
+row_of degrees root found = spaced (tone_names degrees root found)
 
--- the name of an interval's tone by its number
-abbrev name_at : (Interval → IntDegree) → Note → ℕ → List ℕ
-name_at degrees root k = numbered_name degrees root (numbered k)
+-- what `to_word` tells of a note
+abbrev word_of : Note → ℕ
+word_of n = cond (is_note n) (packed (note_name signs n)) 0
 
-abbrev pub tone_at : (Interval → IntDegree) → Note → ℕ → List ℕ
-tone_at degrees root k = bytes " " ++ name_at degrees root k
+module _ (degrees : Interval → IntDegree) (root : Note) where
+  pub tone_given : is_note root ≡ true → (i : Interval) → get_note_answer root (semitones_of i) (numeric_of (degrees i)) ≡ Ok (tone_of degrees root i)
+  unfolding tone_of
+  tone_given is i = move_given root (semitones_of i) (numeric_of (degrees i)) is (interval_moves degrees i)
 
-pub row_each : (degrees : Interval → IntDegree) (root : Note) → Each (row_of degrees root) (tone_at degrees root)
-unfolding spaced
-row_each degrees root = record { none = rw none_in; more = λ set k f. rw (f.rest, f.there) (simp append_assoc) }
+  word_is : (i : Interval) → word_of (tone_of degrees root i) ≡ packed (tone_name degrees root i)
+  unfolding tone_of tone_name
+  word_is i = rw (move_is root (semitones_of i) (numeric_of (degrees i))) refl
 
-numbered_short : (degrees : Interval → IntDegree) (root : Note) (m : Option Interval) → T (is_short (numbered_name degrees root m))
-unfolding is_short are_bytes
-numbered_short degrees root (Some i) = tone_short degrees root i
-numbered_short degrees root None = tt
+  -- a row in a memory that has room for the whole of it, and for eight bytes more
+  module _ (n : ℕ) (whole : List ℕ) (room : length whole + 8 ≤ n) (row : List ℕ) (i : Interval) (more : List Interval)
+      (so_far : row ++ row_of degrees root (i ∷ more) ≡ whole) where
+    pub turn : with_word n (with_byte n row 32) (word_of (tone_of degrees root i)) ++ row_of degrees root more ≡ whole
+    unfolding spaced bytes
+    turn =
+        let long : length row + length (row_of degrees root (i ∷ more)) ≡ length whole = sym (length-append row _) ∙ ap length so_far in
+        let space : with_byte n row 32 ≡ row ++ (32 ∷ []) = rw (lt-ltb (length row) n (omega (arith, long, room))) refl in
+        let roomy : length (row ++ (32 ∷ [])) + 8 ≤ n = simp length-append (omega (arith, long, room)) in
+        rw (space, word_is i, le-leb _ _ roomy, word_text _ (tone_short degrees root i)) (simp append_assoc so_far)
 
--- a space and the name, from what the two calls told
-pub puts : (degrees : Interval → IntDegree) (root : Note) (l : List ℕ) (at k : ℕ) → at + length (tone_at degrees root k) + 8 ≤ length l
-    → (r₁ : ℕ) (l₁ : List ℕ) → (r₁ ≡ place_after l at 0x0100000000000020) × (l₁ ≡ put_at l at 0x0100000000000020) → length l₁ ≡ length l
-    → (word r₂ : ℕ) (l₂ : List ℕ) → word ≡ packed (name_at degrees root k) → (r₂ ≡ place_after l₁ r₁ word) × (l₂ ≡ put_at l₁ r₁ word) → length l₂ ≡ length l₁
-    → Puts l at (tone_at degrees root k) r₂ l₂
-unfolding bytes low packed is_short are_bytes
-puts degrees root l at k room r₁ l₁ told₁ kept₁ word r₂ l₂ e told₂ kept₂ =
-    let space = then_put (no_puts l at) (bytes " ") tt 0x0100000000000020 r₁ l₁ refl (omega (arith, room)) told₁ kept₁ in
-    then_put space (name_at degrees root k) (numbered_short degrees root (numbered k)) word r₂ l₂ e (omega (arith, room)) told₂ kept₂
+  -- at most eight bytes for each interval
+  pub row_long : (found : List Interval) → length (row_of degrees root found) ≤ 8 * length found
+  unfolding spaced bytes
+  row_long [] = omega arith
+  row_long (i ∷ more) =
+      let short = short_length _ (tone_short degrees root i) in
+      simp length-append (omega (arith, short, row_long more))
 
--- a row of some intervals has a byte
-pub row_some : (degrees : Interval → IntDegree) (root : Note) (found : List Interval) → 1 ≤ length found → 1 ≤ length (spaced (tone_names degrees root found))
-unfolding spaced bytes
-row_some degrees root [] h = h
-row_some degrees root (i ∷ more) h = omega arith
+  -- a row of some intervals has a byte
+  pub row_some : (found : List Interval) → 1 ≤ length found → 1 ≤ length (row_of degrees root found)
+  unfolding spaced bytes
+  row_some [] h = h
+  row_some (i ∷ more) h = omega arith
 
--- and at most eight for each interval
-pub row_long : (degrees : Interval → IntDegree) (root : Note) (found : List Interval) → length (spaced (tone_names degrees root found)) ≤ 8 * length found
-unfolding spaced bytes
-row_long degrees root [] = omega arith
-row_long degrees root (i ∷ more) =
-    let short = short_length _ (tone_short degrees root i) in
-    let rest = row_long degrees root more in
-    simp length-append (omega (arith, short, rest))
-
--- behind the first byte
-tail : (l : List ℕ) (e b : ℕ) (u : List ℕ) → take e l ≡ b ∷ u → take (e - 1) (drop 1 l) ≡ u
-tail l zero b u told = absurd (let n = ap length told in let bottom : ⊥ = omega arith in bottom)
-tail [] (suc e) b u told = absurd (let n = ap length told in let bottom : ⊥ = omega arith in bottom)
-tail (x ∷ xs) (suc e) b u told = let n : suc e - 1 ≡ e = omega arith in ap (λ (k : ℕ). take k xs) n ∙ ap (drop 1) told
-
--- the row without its first byte is the names joined
-pub given : (degrees : Interval → IntDegree) (root : Note) (found : List Interval) (l : List ℕ) (e : ℕ) → 1 ≤ length found → take e l ≡ spaced (tone_names degrees root found)
-    → take (e - 1) (drop 1 l) ≡ joined (tone_names degrees root found)
+-- a row without its first byte is the names joined
+pub given : (names : List (List ℕ)) → drop 1 (spaced names) ≡ joined names
 unfolding spaced joined bytes
-given degrees root [] l e some told = absurd (not-suc-le-zero some)
-given degrees root (i ∷ more) l e some told = tail l e 32 _ told
+given [] = refl
+given (name ∷ more) = refl

@@ -1,12 +1,10 @@
 -- Laws of tones.
-use Rattle.answer.proofs.Kit.{◌≡◌, ◌∙◌, true, ℕ, T, leb, Option, Some, Ok}
-use Rattle.answer.specs.Words.{packed}
+use Rattle.answer.proofs.Kit.{◌≡◌, true, ℕ, T, leb, Ok}
 use Rattle.answer.proofs.Digits.{is_short}
 use Rattle.answer.proofs.Tests.{is_true, all}
 use Rattle.intervals.specs.Intervals.{intervals, nth, numbered, semitones_of, numeric_of}
 use Rattle.intervals.proofs.Rows.{at_interval}
 use Rattle.notes.specs.Notes.{is_note, is_move, get_note, get_note_answer}
-use Rattle.notes.specs.NoteText.{signs, note_name}
 use Rattle.notes.specs.declared.note.Note.{Note}
 use Rattle.intervals.specs.declared.interval.Interval.{Interval}
 use Rattle.intervals.specs.declared.interval.IntDegree.{IntDegree}
@@ -15,7 +13,6 @@ use Rattle.intervals.specs.declared.interval.IntDegree.TheVariants as Degree
 use Rattle.notes.proofs.Names.{name_short}
 use Rattle.notes.proofs.Sounding.{move_is}
 use Rattle.spelling.specs.Tones.{tone_of, tone_name}
-use Rattle.spelling.specs.private.Numbers.{numbered_name}
 
 -- a move from a note is not refused
 pub move_given : (n : Note) (semitones degree : ℕ) → is_note n ≡ true → is_move semitones degree ≡ true → get_note_answer n semitones degree ≡ Ok (get_note n semitones degree)
@@ -47,10 +44,3 @@ interval_moves degrees i = moves (semitones_of i) (semitones_few i) (degrees i)
 pub tone_short : (degrees : Interval → IntDegree) (n : Note) (i : Interval) → T (is_short (tone_name degrees n i))
 unfolding tone_name tone_of
 tone_short degrees n i = name_short (tone_of degrees n i) (move_is n (semitones_of i) (numeric_of (degrees i)))
-
--- the word of the move at an interval's semitones and degree is that of its tone
-pub tone_worded : (degrees : Interval → IntDegree) (root : Note) (m : Option Interval) (i : Interval) (d : IntDegree) (semitones degree r : ℕ)
-    → m ≡ Some i → d ≡ degrees i → semitones ≡ semitones_of i → degree ≡ numeric_of d
-    → r ≡ packed (note_name signs (get_note root semitones degree)) → r ≡ packed (numbered_name degrees root m)
-unfolding tone_name tone_of
-tone_worded degrees root m i d semitones degree r is by st number e = rw is (e ∙ rw (st, number, by))

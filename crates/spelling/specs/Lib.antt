@@ -1,3 +1,2 @@
 pub mod Tones
 pub mod Letters
-pub mod private

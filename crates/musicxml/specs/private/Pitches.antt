@@ -1,16 +1,14 @@
 -- A class as the code writes it.
-use Rattle.std.specs.Prelude.{cond, List, ◌++◌, ℕ, eqb, length, take}
+use Rattle.std.specs.Prelude.{cond, List, [], ◌++◌, ℕ, eqb, length, take}
 use Rattle.names.specs.Names.{flats, name_of}
-use Rattle.musicxml.specs.declared.texts.Part.{Part}
-use Rattle.musicxml.specs.declared.texts.Part.TheVariants.{Nothing}
-use Rattle.musicxml.specs.private.Texts.{part_text}
+use Rattle.musicxml.specs.declared.harmony.Around.{Around}
+use Rattle.musicxml.specs.private.Texts.{words_text}
 
--- a name of so many bytes has an alter, or none
-abbrev pub alter_where : ℕ → Part → Part
-alter_where size alter = cond (eqb size 2) alter Nothing
+-- a name's letter, and an alter if the name has two bytes, with what is around them
+unfoldable pub named_text : List ℕ → List ℕ → List ℕ → List ℕ → List ℕ → List ℕ
+named_text name before step alter end = before ++ take 1 name ++ step ++ cond (eqb (length name) 2) alter [] ++ end
 
--- a class's letter between two texts, its alter, and a last text
-unfoldable pub pitch_text : ℕ → Part → Part → Part → Part → List ℕ
-pitch_text class before step alter end =
-    let name = name_of flats class in
-    part_text before ++ take 1 name ++ part_text step ++ part_text (alter_where (length name) alter) ++ part_text end
+-- the same of a class
+abbrev pub pitch_text : ℕ → Around → List ℕ
+pitch_text class around =
+    named_text (name_of flats class) (words_text around.before.now) (words_text around.step.now) (words_text around.alter.now) (words_text around.end.now)

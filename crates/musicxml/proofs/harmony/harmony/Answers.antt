@@ -1,56 +1,76 @@
--- `musicxml::harmony::harmony` meets its contract: the tests say what the call has to give, and `give` gives it.
-use Rattle.answer.proofs.Kit.{◌≡◌, sym, ap, subst, ◌∙◌, Bool, true, ◌&&◌, ◌<◌, arith, leb, leb→le}
+-- `musicxml::harmony::harmony` meets its contract: the tests say what the call has to give, and the texts in a row are the element.
+use Rattle.answer.proofs.Kit.{◌≡◌, sym, ap, subst, ◌∙◌, Bool, true, ◌&&◌, List, [], ℕ, ◌<◌, ◌^◌, arith, leb, leb→le, bit_and, mod-eq_of_lt, map, Option}
+use Rattle.std.proofs.lemmas.Result.{err_from_is_err_and}
+use Rattle.answer.specs.Words.{bytes, digits, text_of}
 use Rattle.answer.specs.Replies.{Reply, text, Answered}
 use Rattle.answer.proofs.Rooms.{refused_by}
 use Rattle.answer.proofs.Tests.{left, right, said, is_true}
-use Rattle.answer.proofs.Writing.{counted, within}
 use Rattle.intervals.specs.Bass.{is_bass}
-use Rattle.intervals.specs.Sets.{is_rooted}
-use Rattle.rules.specs.Parts.{suffix_quality}
-use Rattle.descriptors.proofs.Replied.{shown_told, shown_refused}
-use Rattle.musicxml.proofs.Replied.{not_rooted, no_class, element}
+use Rattle.intervals.specs.Intervals.{set_of}
+use Rattle.intervals.proofs.Rooted.{rooted_small}
+use Rattle.qualities.specs.declared.quality.ChordQuality.{ChordQuality}
+use Rattle.rules.specs.Classes.{intervals_in, intervals_of}
+use Rattle.descriptors.proofs.Replied.{shown_told}
+use Rattle.harmonies.specs.Xml.{written}
+use Rattle.harmonies.specs.Kinds.{add_of}
+use Rattle.harmonies.specs.Harmony.{flats, bass_of, degrees}
+use Rattle.harmonies.proofs.Long.{harmony_short}
+use Rattle.harmonies.proofs.Lossless.{class_of_lem}
+use Rattle.musicxml.specs.private.Kinds.{IsKind}
+use Rattle.musicxml.specs.private.Texts.{words_text, Adds}
+use Rattle.musicxml.proofs.Pitched.{root_text, bass_text_lem}
+use Rattle.musicxml.proofs.Pushed.{nothing, then, named}
+use Rattle.musicxml.proofs.Replied.{on_shown, by_the_shown, no_class, element}
+use Rattle.musicxml.proofs.Whole.{whole_text, whole, few}
 use Rattle.musicxml.proofs.harmony.harmony.Goals as goal
-use Rattle.musicxml.proofs.harmony.harmony.Goals.{After-is_bass, Else-not-root-is_bass}
+use Rattle.musicxml.proofs.harmony.harmony.Goals.{After-push_words-3, Joined-bass, in-Some, in_default}
 
--- the set is rooted, of the quality that is shown
-told : (c : After-is_bass) → (is_rooted c.args.set ≡ true) × (c.in-Ok.quality ≡ suffix_quality c.args.set)
-told c = shown_told c.args.set _ c.shown.ensures _ c.in-Ok.is
+-- the bass, or nothing
+bass : (c : Joined-bass) → is_bass c.args.bass ≡ true → Adds c.push_words-2.new.element (written (bass_of flats c.args.bass)) c.match-bass.element
+unfolding written words_text bytes digits text_of
+bass c is = elim c.match-bass.branch [
+  | in-Some w ↦
+      let class = class_of_lem w.in-Some.class (subst (λ (b : Option ℕ). is_bass b ≡ true) w.in-Some.is is) in
+      rw (w.in-Some.is, w.element-is) (named (sym (bass_text_lem w.in-Some.class class)) w.push_pitch-in-Some.ensures)
+  | in_default w ↦ rw (w.in_default.is, w.element-is) (nothing _)
+]
 
-tested : (c : After-is_bass) → leb c.args.root 11 && c.is_bass.result ≡ leb c.args.root 11 && is_bass c.args.bass
-tested c = ap (λ (b : Bool). leb c.args.root 11 && b) c.is_bass.ensures
+-- all texts in a row
+row : (c : After-push_words-3)
+    → Adds c.push_words-2.new.element (written (bass_of flats c.args.bass)) c.match-bass.element
+    → bit_and c.of-kind.result.outside c.intervals.result < 2 ^ 23
+    → Adds [] (whole_text c.of-kind.result c.intervals.result c.args.root c.args.bass c.args.set) c.push_words-3.new.element
+unfolding words_text bytes digits text_of
+row c under few =
+    let root = subst (λ (t : List ℕ). Adds t (root_text c.args.root) c.push_pitch.new.element) c.new-element.ensures c.push_pitch.ensures in
+    let adds = named (ap (λ (n : ℕ). written (degrees (map add_of (intervals_in n)))) (mod-eq_of_lt few)) c.push_adds.ensures in
+    then (then (then (then (then (then (then root c.push_words.ensures) c.push_words-2.ensures) under) adds) c.push_subtract.ensures) c.push_subtract-2.ensures) c.push_words-3.ensures
 
--- the classes are not refused
-module _ (c : Else-not-root-is_bass) where
-  good : leb c.args.root 11 && is_bass c.args.bass ≡ true
-  good = sym (ap (λ (b : Bool). leb c.args.root 11 && b) c.is_bass.ensures) ∙ c.if-not-root-is_bass.false
-
-  class : c.args.root < 12
-  class = let h = leb→le c.args.root 11 (left (leb c.args.root 11) _ (said _ good)) in omega arith
-
-  is_bass_lem : is_bass c.args.bass ≡ true
-  is_bass_lem = is_true _ (right (leb c.args.root 11) _ (said _ good))
+pub returns-in_err-shown : goal.returns-in_err-shown
+returns-in_err-shown c =
+    let why = err_from_is_err_and c.from_residual.result c.from_residual.ensures.1 in
+    rw (why.1, why.2)
+    (refused_by _ _ _ (by_the_shown c.args.root c.args.bass c.args.set ∙ ap (on_shown c.args.root c.args.bass c.args.set) (sym c.shown.ensures ∙ c.in_err-shown.was)))
 
 pub returns-then-not-root-is_bass : goal.returns-then-not-root-is_bass
 returns-then-not-root-is_bass c =
-    let p = (goal.at.returns-then-not-root-is_bass c).After-is_bass in
-    refused_by _ _ _ (no_class _ _ _ (told p).0 (sym (tested p) ∙ c.if-not-root-is_bass.true))
+    let tested = ap (λ (b : Bool). leb c.args.root 11 && b) c.is_bass.ensures in
+    refused_by _ _ _ (no_class _ _ _ (shown_told c.args.set _ c.shown.ensures _ c.in_ok-shown.was).0 (sym tested ∙ c.if-not-root-is_bass.true))
 
-pub put_harmony-end-requires : goal.put_harmony-end-requires
-put_harmony-end-requires c =
-    let p = goal.at.put_harmony-end-requires c in
-    (class p.Else-not-root-is_bass, is_bass_lem p.Else-not-root-is_bass, (told p.After-is_bass).0, (told p.After-is_bass).1, omega arith)
-
-pub slice_bounds-buffer-end : goal.slice_bounds-buffer-end
-slice_bounds-buffer-end c = within c.put_harmony-end.ensures
-
-pub slice_bounds-give-end : goal.slice_bounds-give-end
-slice_bounds-give-end c = counted c.put_harmony-end.ensures
-
-pub returns-else-not-root-is_bass : goal.returns-else-not-root-is_bass
-returns-else-not-root-is_bass c =
-    let p = goal.at.returns-else-not-root-is_bass c in
-    let reply = ap text c.put_harmony-end.ensures.added ∙ sym (element c.args.root c.args.bass c.args.set (told p.After-is_bass).0 (good p.Else-not-root-is_bass)) in
-    subst (λ (x : Reply). Answered x c.args.out.now c.give.result c.give.new.out) reply c.give.ensures
-
-pub returns-in-Err : goal.returns-in-Err
-returns-in-Err c = refused_by _ _ _ (not_rooted _ _ _ (shown_refused _ _ c.shown.ensures _ c.in-Err.is))
+pub returns : goal.returns
+returns c =
+    let p = goal.at.returns c in
+    let a = c.args in
+    let shown = shown_told a.set _ c.shown.ensures _ c.in_ok-shown.was in
+    let kind = subst (λ (q : ChordQuality). IsKind q c.of-kind.result) shown.1 c.of-kind.ensures in
+    let small = rooted_small a.set shown.0 in
+    let all = c.intervals.ensures ∙ ap (λ (x : ℕ). set_of (intervals_of x)) (mod-eq_of_lt (omega arith)) in
+    let good = sym (ap (λ (b : Bool). leb a.root 11 && b) c.is_bass.ensures) ∙ c.if-not-root-is_bass.false in
+    let last = leb→le a.root 11 (left (leb a.root 11) _ (said _ good)) in
+    let class : a.root < 12 = omega arith in
+    let over = is_true (is_bass a.bass) (right (leb a.root 11) _ (said _ good)) in
+    let texts = row p.After-push_words-3 (bass p.Joined-bass over) (few a.set shown.0 c.of-kind.result c.intervals.result kind all) in
+    let is = named (sym (whole a.set shown.0 c.of-kind.result c.intervals.result kind all a.root a.bass class)) texts in
+    let short = harmony_short a.root a.bass a.set class over shown.0 in
+    let made = is.where_room (omega (arith, short)) in
+    subst (λ (x : Reply). Answered x a.out.now c.give.result c.give.new.out) (ap text made ∙ sym (element a.root a.bass a.set shown.0 good)) c.give.ensures
