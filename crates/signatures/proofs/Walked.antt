@@ -8,10 +8,10 @@ use Rattle.signatures.specs.Part.{found_at, found_in}
 
 unfoldable pub found_from : ℕ → ℕ → List ℕ → ℕ → Option (ℕ × ℕ)
 found_from start i [] n = None
-found_from start i (b ∷ more) zero = cond (eqb b line_feed) (Some start (i - start)) (found_from start (i + 1) more zero)
+found_from start i (b ∷ more) zero = cond (eqb b line_feed) (Some (start, i - start)) (found_from start (i + 1) more zero)
 found_from start i (b ∷ more) (suc n) = cond (eqb b line_feed) (found_from (i + 1) (i + 1) more n) (found_from start (i + 1) more (suc n))
 
-pub here : (start i b : ℕ) (more : List ℕ) → eqb b line_feed ≡ true → found_from start i (b ∷ more) 0 ≡ Some start (i - start)
+pub here : (start i b : ℕ) (more : List ℕ) → eqb b line_feed ≡ true → found_from start i (b ∷ more) 0 ≡ Some (start, i - start)
 unfolding found_from
 here start i b more e = rw e refl
 
@@ -31,13 +31,13 @@ at_end start i n = refl
 -- the same over the lines that begin at a byte, the first of them a part of one that began before it
 unfoldable passed : ℕ → ℕ → List (List ℕ) → ℕ → Option (ℕ × ℕ)
 passed start i [] n = None
-passed start i (line ∷ more) zero = Some start (i + length line - start)
+passed start i (line ∷ more) zero = Some (start, i + length line - start)
 passed start i (line ∷ more) (suc n) = passed (i + length line + 1) (i + length line + 1) more n
 
 begun : (start i b : ℕ) (lines : List (List ℕ)) (n : ℕ) → passed start (i + 1) lines n ≡ passed start i (begun_with b lines) n
 unfolding passed begun_with
 begun start i b [] n = refl
-begun start i b (line ∷ more) zero = let e : i + 1 + length line ≡ i + suc (length line) = omega arith in ap (λ (x : ℕ). Some start (x - start)) e
+begun start i b (line ∷ more) zero = let e : i + 1 + length line ≡ i + suc (length line) = omega arith in ap (λ (x : ℕ). Some (start, x - start)) e
 begun start i b (line ∷ more) (suc n) = let e : i + 1 + length line ≡ i + suc (length line) = omega arith in ap (λ (x : ℕ). passed (x + 1) (x + 1) more n) e
 
 by_lines : (start i : ℕ) (l : List ℕ) (n : ℕ) → found_from start i l n ≡ passed start i (lines_of l) n
@@ -46,8 +46,8 @@ by_lines start i [] n = refl
 by_lines start i (b ∷ more) zero = by_feed (eqb b line_feed) (by_lines start (i + 1) more zero)
   where
     by_feed : (is : Bool) → found_from start (i + 1) more zero ≡ passed start (i + 1) (lines_of more) zero
-        → cond is (Some start (i - start)) (found_from start (i + 1) more zero) ≡ passed start i (cond is ([] ∷ lines_of more) (begun_with b (lines_of more))) zero
-    by_feed true later = ap (λ (x : ℕ). Some start (x - start)) (sym (add-zero i))
+        → cond is (Some (start, i - start)) (found_from start (i + 1) more zero) ≡ passed start i (cond is ([] ∷ lines_of more) (begun_with b (lines_of more))) zero
+    by_feed true later = ap (λ (x : ℕ). Some (start, x - start)) (sym (add-zero i))
     by_feed false later = later ∙ begun start i b (lines_of more) zero
 by_lines start i (b ∷ more) (suc n) = by_feed (eqb b line_feed) (by_lines (i + 1) (i + 1) more n) (by_lines start (i + 1) more (suc n))
   where
@@ -62,7 +62,7 @@ by_lines start i (b ∷ more) (suc n) = by_feed (eqb b line_feed) (by_lines (i +
 by_start : (i : ℕ) (lines : List (List ℕ)) (n : ℕ) → passed i i lines n ≡ found_at (i + length (flat_map ended (take n lines))) (numbered_in lines n)
 unfolding passed numbered_in flat_map
 by_start i [] n = refl
-by_start i (line ∷ more) zero = let e : i + length line - i ≡ length line = omega arith in ap₂ Some (sym (add-zero i)) e
+by_start i (line ∷ more) zero = let e : i + length line - i ≡ length line = omega arith in ap₂ (λ (x y : ℕ). Some (x, y)) (sym (add-zero i)) e
 by_start i (line ∷ more) (suc n) =
     let before = flat_map ended (take n more) in
     let e : i + length line + 1 + length before ≡ i + length (ended line ++ before) = simp length-append (omega arith) in

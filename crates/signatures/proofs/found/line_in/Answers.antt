@@ -10,7 +10,7 @@ module _ (text : List ℕ) (start i : ℕ) (h : i < length text) where
   turn : drop i text ≡ get_or text i 0 ∷ drop (i + 1) text
   turn = rw add-one (drop-cons text i 0 h)
 
-  stops : get_or text i 0 ≡ line_feed → found_from start i (drop i text) 0 ≡ Some start (i - start)
+  stops : get_or text i 0 ≡ line_feed → found_from start i (drop i text) 0 ≡ Some (start, i - start)
   stops feed = ap (λ (l : List ℕ). found_from start i l 0) turn ∙ here start i _ _ (eq-eqb _ _ feed)
 
   passes : (left : ℕ) → get_or text i 0 ≡ line_feed → found_from start i (drop i text) (suc left) ≡ found_from (i + 1) (i + 1) (drop (i + 1) text) left
