@@ -56,7 +56,8 @@ invariant_of-answer c = let l = listing (goal.at.invariant_of-answer c).In-Ok in
 pub returns-in-Ok : goal.returns-in-Ok
 unfolding codes_text
 returns-in-Ok c =
-    rw (c.push-in-Ok.ensures, c.push.ensures) (stopped (strict_reply flats c.args.codes.now) _ _ (listing (goal.at.returns-in-Ok c).In-Ok))
+    c.push-in-Ok.ensures ∙ ap (λ (t : List ℕ). take 842 (t ++ (10 ∷ []))) c.push.ensures
+    ∙ stopped (strict_reply flats c.args.codes.now) _ _ (listing (goal.at.returns-in-Ok c).In-Ok)
 
 pub returns-in-Err : goal.returns-in-Err
 unfolding codes_text
