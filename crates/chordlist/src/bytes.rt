@@ -1,4 +1,4 @@
-// Up to N bytes in a row.
+// Up to N bytes in a row. Beside `answer::text::Text`, since that can't be cleared, nor lent to a call that writes.
 ghost use Rattle.std.specs.Prelude.{◌≡◌, ℕ, ◌≤◌, List, [], ◌∷◌, ◌++◌, length, take};
 
 use std::marker::Model;
