@@ -1,199 +1,177 @@
 -- Laws of reading the codes of a line.
---     with_codes     a line with codes in front
---     Reading        what has been read before the byte at i
+--     no_bytes, too_long, no_digits, too_high, is_one     what a part is, by its length, its bytes and what it is worth
+--     one_more, digits_append, decimal_more, broken       a byte more of a part
+--     Read           what has been read before the part at k
 --     start          before the first
---     digit          a digit more of a code
---     next           a space behind a code
---     no_space, no_code     a byte that is neither, and a space behind no code
---     place          a code at the end has a place among 512
---     read, cut      at the end: behind a code, and behind none
-use Rattle.answer.proofs.Kit.{◌≡◌, refl, sym, ap, ◌∙◌, Bool, true, false, cond, ◌&&◌, and-true, and-false, and_assoc, List, [], ◌∷◌, ◌++◌, append-nil, ℕ, ◌+◌, ◌-◌, ◌*◌, ◌%◌, ◌^◌, ◌<◌, ◌≤◌, pow-suc, pow-le-pow_right, mod-eq_of_lt, lt_of_lt_of_le, add-one, arith, eqb, leb, ltb, leb→le, ltb→lt, lit<, length, take, drop, get_or, set, length-append, drop-cons, drop-length, take-suc-set, eq-eqb, ne_eqb, le-leb, lt-leb, ltb-false}
-use Rattle.answer.proofs.Tests.{left, right, said, is_true}
+--     next           a code more, for which there is room
+--     lost           a part that is no code
+--     read           behind the last
+use Rattle.answer.proofs.Kit.{◌≡◌, refl, sym, ap, ◌∙◌, Bool, true, true≢false, false, cond, ◌&&◌, and-false, and_assoc, List, [], ◌∷◌, ◌++◌, append-nil, ℕ, ◌+◌, ◌-◌, ◌*◌, ◌<◌, ◌≤◌, add-one, arith, eqb, length, take, drop, get_or, length-append, drop-cons, drop-length, take-suc, take_all, take-append-drop, lt-ltb, le-leb, lt-leb, Option, Some, None}
+use Rattle.std.specs.List.{slice_split, onto_first}
 use Rattle.chordlist.specs.Parts.{with_byte, parts}
-use Rattle.chordlist.specs.Codes.{Line, bad, holds, space, digit0, is_digit, are_digits, decimal, is_code, with_code, codes_of, codes_in}
-use Rattle.chordlist.proofs.Parting.{onto, onto_part, onto_byte}
+use Rattle.chordlist.specs.Codes.{space, digit0, is_digit, are_digits, decimal, is_code, with_code, codes_of, codes_in}
+use Rattle.chordlist.specs.private.Calls.{code_in}
 
-unfoldable pub with_codes : List ℕ → Line → Line
-with_codes [] l = l
-with_codes (c ∷ cs) l = with_code c (with_codes cs l)
+module _ (part : List ℕ) where
+  pub no_bytes : length part ≡ 0 → code_in part ≡ None
+  unfolding code_in is_code
+  no_bytes e = rw e
 
-with_one_more : (cs : List ℕ) (c : ℕ) (l : Line) → with_codes (cs ++ (c ∷ [])) l ≡ with_codes cs (with_code c l)
-unfolding with_codes
-with_one_more [] c l = refl
-with_one_more (d ∷ cs) c l = ap (with_code d) (with_one_more cs c l)
+  pub too_long : 3 < length part → code_in part ≡ None
+  unfolding code_in is_code
+  too_long h = rw (lt-leb (length part) 3 h) (simp and-false)
 
-with_bad : (cs : List ℕ) → with_codes cs bad ≡ bad
-unfolding with_codes with_code
-with_bad [] = refl
-with_bad (d ∷ cs) = ap (with_code d) (with_bad cs)
+  pub no_digits : are_digits part ≡ false → code_in part ≡ None
+  unfolding code_in is_code
+  no_digits e = rw e (simp and-false)
 
-with_holds : (cs ds : List ℕ) → with_codes cs (holds ds) ≡ holds (cs ++ ds)
-unfolding with_codes with_code
-with_holds [] ds = refl
-with_holds (d ∷ cs) ds = ap (with_code d) (with_holds cs ds)
+  pub too_high : 255 < decimal 0 part → code_in part ≡ None
+  unfolding code_in is_code
+  too_high h = rw (lt-leb (decimal 0 part) 255 h) (simp and-false)
 
--- digits and one more byte
-digits_append : (t u : List ℕ) → are_digits (t ++ u) ≡ are_digits t && are_digits u
+  pub is_one : 0 < length part → length part ≤ 3 → are_digits part ≡ true → decimal 0 part ≤ 255 → code_in part ≡ Some (decimal 0 part)
+  unfolding code_in is_code
+  is_one some few are low = rw (lt-ltb 0 (length part) some, le-leb (length part) 3 few, are, le-leb (decimal 0 part) 255 low)
+
+-- digits and more bytes
+pub digits_append : (t u : List ℕ) → are_digits (t ++ u) ≡ are_digits t && are_digits u
 unfolding are_digits
 digits_append [] u = refl
 digits_append (b ∷ t) u = ap (λ (a : Bool). is_digit b && a) (digits_append t u) ∙ sym (and_assoc (is_digit b) (are_digits t) (are_digits u))
 
-decimal_more : (number : ℕ) (t : List ℕ) (digit : ℕ) → decimal number (t ++ (digit ∷ [])) ≡ decimal number t * 10 + (digit - digit0)
+pub decimal_more : (number : ℕ) (t : List ℕ) (digit : ℕ) → decimal number (t ++ (digit ∷ [])) ≡ decimal number t * 10 + (digit - digit0)
 unfolding decimal
 decimal_more number [] digit = refl
 decimal_more number (d ∷ t) digit = decimal_more (number * 10 + (d - digit0)) t digit
 
--- the test of a code that has so many digits
-abbrev pub is_ended : ℕ → ℕ → Bool
-is_ended value digits = ltb 0 digits && leb value 255
+module _ (part : List ℕ) (i : ℕ) (inside : i < length part) where
+  pub one_more : take (i + 1) part ≡ take i part ++ (get_or part i 0 ∷ [])
+  one_more = rw add-one (take-suc part i 0 inside)
 
-code_ended : (part : List ℕ) → are_digits part ≡ true → length part ≤ 3 → is_code part ≡ is_ended (decimal 0 part) (length part)
-unfolding is_code
-code_ended part are at_most_three = rw (are, le-leb _ _ at_most_three) (simp and-true)
+  pub broken : is_digit (get_or part i 0) ≡ false → are_digits part ≡ false
+  unfolding are_digits
+  broken e =
+      ap are_digits (sym (take-append-drop i part) ∙ ap (λ (u : List ℕ). take i part ++ u) (drop-cons part i 0 inside))
+      ∙ digits_append (take i part) (get_or part i 0 ∷ _) ∙ rw e (simp and-false)
 
--- a part that begins with digits and a byte that is no further digit of a code
-no_digit : (t : List ℕ) (b : ℕ) (u : List ℕ) → is_digit b && ltb (length t) 3 ≡ false → is_code (t ++ b ∷ u) ≡ false
-unfolding is_code are_digits
-no_digit t b u e = go (is_digit b) refl
+-- a line with codes in front
+unfoldable pub with_codes : List ℕ → Option (List ℕ) → Option (List ℕ)
+with_codes [] l = l
+with_codes (c ∷ cs) l = with_code c (with_codes cs l)
+
+with_one_more : (cs : List ℕ) (c : ℕ) (l : Option (List ℕ)) → with_codes (cs ++ (c ∷ [])) l ≡ with_codes cs (with_code c l)
+unfolding with_codes
+with_one_more [] c l = refl
+with_one_more (d ∷ cs) c l = ap (with_code d) (with_one_more cs c l)
+
+with_none : (cs : List ℕ) → with_codes cs None ≡ None
+unfolding with_codes with_code
+with_none [] = refl
+with_none (d ∷ cs) = ap (with_code d) (with_none cs)
+
+with_some : (cs ds : List ℕ) → with_codes cs (Some ds) ≡ Some (cs ++ ds)
+unfolding with_codes with_code
+with_some [] ds = refl
+with_some (d ∷ cs) ds = ap (with_code d) (with_some cs ds)
+
+-- a line as std splits it
+abbrev pub split : List ℕ → List (List ℕ)
+split line = slice_split (λ (b : ℕ). eqb b space) line
+
+onto : (b : ℕ) (ps : List (List ℕ)) → with_byte b ps ≡ onto_first b ps
+unfolding with_byte
+onto b [] = refl
+onto b (p ∷ more) = refl
+
+parts_split : (line : List ℕ) → parts ([] ∷ []) space line ≡ split line
+unfolding parts
+parts_split [] = refl
+parts_split (b ∷ more) =
+    ap (λ (ps : List (List ℕ)). cond (eqb b space) ([] ∷ ps) (with_byte b ps)) (parts_split more)
+    ∙ ap (λ (ps : List (List ℕ)). cond (eqb b space) ([] ∷ split more) ps) (onto b (split more))
+
+pub codes_split : (line : List ℕ) → (length line ≡ 0 → ⊥) → codes_of (split line) ≡ codes_in line
+unfolding codes_in
+codes_split [] other = absurd (other refl)
+codes_split (b ∷ more) other = ap codes_of (sym (parts_split (b ∷ more)))
+
+coded : (part : List ℕ) (code : ℕ) (more : List (List ℕ)) → code_in part ≡ Some code → codes_of (part ∷ more) ≡ with_code code (codes_of more)
+unfolding codes_of code_in
+coded part code more e = go (is_code part) e
   where
-    go : (d : Bool) → is_digit b ≡ d → is_code (t ++ b ∷ u) ≡ false
-    go false other = simp (digits_append, other, and-false)
-    go true is =
-        let many : 3 ≤ length t = ltb-false _ _ (rw is at e) in
-        rw (lt-leb (length (t ++ b ∷ u)) 3 (simp length-append (omega arith))) (simp and-false)
+    go : (t : Bool) → cond t (Some (decimal 0 part)) None ≡ Some code → cond t (with_code (decimal 0 part) (codes_of more)) None ≡ with_code code (codes_of more)
+    go true e = let is : decimal 0 part ≡ code = cc in ap (λ (c : ℕ). with_code c (codes_of more)) is
+    go false e = absurd (true≢false cc)
 
-module _ (t : List ℕ) (b : ℕ) (e : is_digit b && ltb (length t) 3 ≡ false) where
-  spoiled_part : (ps : List (List ℕ)) → codes_of (onto t (with_byte b ps)) ≡ bad
-  unfolding codes_of with_byte
-  spoiled_part [] = ap codes_of (onto_part t (b ∷ []) []) ∙ rw (no_digit t b [] e)
-  spoiled_part (p ∷ more) = ap codes_of (onto_part t (b ∷ p) more) ∙ rw (no_digit t b p e)
+uncoded : (part : List ℕ) (more : List (List ℕ)) → code_in part ≡ None → codes_of (part ∷ more) ≡ None
+unfolding codes_of code_in
+uncoded part more e = go (is_code part) e
+  where
+    go : (t : Bool) → cond t (Some (decimal 0 part)) None ≡ None → cond t (with_code (decimal 0 part) (codes_of more)) None ≡ None
+    go true e = absurd (true≢false cc)
+    go false e = refl
 
--- a part that is read to its end, in digits
-module _ (t : List ℕ) (are : are_digits t ≡ true) (at_most_three : length t ≤ 3) (more : List (List ℕ)) where
-  ended_part : codes_of (onto t ([] ∷ more)) ≡ cond (is_ended (decimal 0 t) (length t)) (with_code (decimal 0 t) (codes_of more)) bad
-  unfolding codes_of
-  ended_part = ap codes_of (onto_part t [] more ∙ ap (λ (p : List ℕ). p ∷ more) (append-nil t)) ∙ rw (code_ended t are at_most_three)
+-- the bytes of parts, and one behind each
+pub weight : List (List ℕ) → ℕ
+weight [] = 0
+weight (p ∷ more) = length p + 1 + weight more
 
--- `part` are the digits of the code that is being read
-pub record Reading (line : List ℕ) (i value digits count : ℕ) (codes : List ℕ) : Type 0 where
-  pub part : List ℕ
-  pub rest : with_codes (take count codes) (codes_of (onto part (parts ([] ∷ []) space (drop i line)))) ≡ codes_in line
-  pub are : are_digits part ≡ true
-  pub long : length part ≡ digits
-  pub worth : decimal 0 part ≡ value
-  pub at_most_three : digits ≤ 3
-  pub small : value < 10 ^ digits
-  pub used : 2 * count + digits ≤ i
+weigh : (line : List ℕ) → weight (split line) ≡ length line + 1
+unfolding weight
+weigh [] = refl
+weigh (b ∷ more) = by_case (eqb b space) (split more) (weigh more)
+  where
+    by_case : (t : Bool) (ps : List (List ℕ)) → weight ps ≡ length more + 1 → weight (cond t ([] ∷ ps) (onto_first b ps)) ≡ length (b ∷ more) + 1
+    by_case true ps e = omega (arith, e)
+    by_case false [] e = absurd (let no_way : ⊥ = omega (arith, e) in no_way)
+    by_case false (p ∷ qs) e = omega (arith, e)
 
-pub start : (line codes : List ℕ) → (length line ≡ 0 → ⊥) → Reading line 0 0 0 0 codes
-unfolding with_codes codes_in onto are_digits decimal
-start [] codes other = absurd (other refl)
-start (b ∷ more) codes other =
-    record { part = []; rest = refl; are = refl; long = refl; worth = refl; at_most_three = omega arith; small = lit< tt; used = omega arith }
+pub record Read (line codes : List ℕ) (k : ℕ) : Type 0 where
+  pub rest : with_codes codes (codes_of (drop k (split line))) ≡ codes_of (split line)
+  pub used : 2 * length codes + weight (drop k (split line)) ≤ length line + 1
 
--- a value of at most three digits
-below : (value digits : ℕ) → digits ≤ 3 → value < 10 ^ digits → value < 1000
-below value digits h k = lt_of_lt_of_le k (pow-le-pow_right (lit< tt) h)
+pub start : (line : List ℕ) → Read line [] 0
+unfolding with_codes
+start line = record { rest = refl; used = omega (arith, weigh line) }
 
--- the parts of a line from a place on
-abbrev from : List ℕ → ℕ → List (List ℕ)
-from line i = parts ([] ∷ []) space (drop i line)
+module _ (line codes part : List ℕ) (k : ℕ) (inside : k < length (split line)) (is : part ≡ get_or (split line) k part) (r : Read line codes k) where
+  ahead : drop k (split line) ≡ part ∷ drop (k + 1) (split line)
+  ahead = drop-cons (split line) k part inside ∙ rw (add-one, ← is)
 
--- the code that is being read ends
-closed : {line codes : List ℕ} {i value digits count : ℕ} (r : Reading line i value digits count codes) (more : List (List ℕ))
-    → codes_of (onto r.part ([] ∷ more)) ≡ cond (is_ended value digits) (with_code value (codes_of more)) bad
-closed r more = ended_part r.part r.are (omega (arith, r.at_most_three, r.long)) more ∙ rw (r.worth, r.long)
+  -- what is left to read
+  left_over : with_codes codes (codes_of (part ∷ drop (k + 1) (split line))) ≡ codes_of (split line)
+  left_over = ap (λ (ps : List (List ℕ)). with_codes codes (codes_of ps)) (sym ahead) ∙ r.rest
 
-ended_small : (value digits : ℕ) → is_ended value digits ≡ true → value % 256 ≡ value
-ended_small value digits ended =
-    let most : value ≤ 255 = leb→le value 255 (right (ltb 0 digits) _ (said _ ended)) in mod-eq_of_lt (let less : value < 256 = omega arith in less)
+  weighed : 2 * length codes + (length part + 1 + weight (drop (k + 1) (split line))) ≤ length line + 1
+  unfolding weight
+  weighed = rw ahead at r.used
 
-module _ (line codes : List ℕ) (i value digits count : ℕ) (inside : i < length line) (r : Reading line i value digits count codes) where
-  split : drop i line ≡ get_or line i 0 ∷ drop (i + 1) line
-  split = drop-cons line i 0 inside ∙ ap (λ (n : ℕ). get_or line i 0 ∷ drop n line) (sym (add-one i))
+  module _ (code : ℕ) (e : code_in part ≡ Some code) where
+    -- a code has a byte
+    some_bytes : 0 < length part
+    unfolding code_in is_code
+    some_bytes = go part e
+      where
+        go : (p : List ℕ) → code_in p ≡ Some code → 0 < length p
+        go [] e = absurd (true≢false cc)
+        go (b ∷ p) e = omega arith
 
-  -- what is left to read, by the byte at i
-  left_parts : (t : Bool) → eqb (get_or line i 0) space ≡ t
-      → with_codes (take count codes) (codes_of (onto r.part (cond t ([] ∷ from line (i + 1)) (with_byte (get_or line i 0) (from line (i + 1)))))) ≡ codes_in line
-  unfolding parts
-  left_parts t e =
-      ap (λ (l : List (List ℕ)). with_codes (take count codes) (codes_of (onto r.part l))) (sym (ap (parts ([] ∷ []) space) split ∙ rw e)) ∙ r.rest
-
-  pub value_less : value < 1000
-  value_less = below value digits r.at_most_three r.small
-
-  module _ (more : is_digit (get_or line i 0) && ltb digits 3 ≡ true) where
-    pub is_digit_lem : (48 ≤ get_or line i 0) × (get_or line i 0 ≤ 57)
-    is_digit_lem =
-        let t = left (is_digit (get_or line i 0)) (ltb digits 3) (said _ more) in
-        (leb→le 48 (get_or line i 0) (left (leb 48 (get_or line i 0)) _ t), leb→le (get_or line i 0) 57 (right (leb 48 (get_or line i 0)) _ t))
-
-    pub has_place_lem : digits < 3
-    has_place_lem = ltb→lt digits 3 (right (is_digit (get_or line i 0)) (ltb digits 3) (said _ more))
-
-    pub digit : Reading line (i + 1) (value * 10 + (get_or line i 0 - 48)) (digits + 1) count codes
-    unfolding are_digits
-    digit =
-        let b = get_or line i 0 in
-        let other : eqb b space ≡ false = ne_eqb b space (λ e. omega (arith, is_digit_lem.0)) in
-        let is : is_digit b ≡ true = is_true _ (left (is_digit b) (ltb digits 3) (said _ more)) in
+    pub next : Read line (codes ++ (code ∷ [])) (k + 1)
+    next =
+        let more = drop (k + 1) (split line) in
         record {
-          part = r.part ++ (b ∷ []);
-          rest = ap (λ (l : List (List ℕ)). with_codes (take count codes) (codes_of l)) (onto_byte r.part b (from line (i + 1))) ∙ left_parts false other;
-          are = digits_append r.part (b ∷ []) ∙ rw (r.are, is);
-          long = length-append r.part (b ∷ []) ∙ ap (λ (n : ℕ). n + 1) r.long;
-          worth = decimal_more 0 r.part b ∙ ap (λ (v : ℕ). v * 10 + (b - 48)) r.worth;
-          at_most_three = omega (arith, has_place_lem);
-          small = rw (add-one digits, pow-suc) (omega (arith, r.small, is_digit_lem.0, is_digit_lem.1));
-          used = omega (arith, r.used);
+          rest = with_one_more codes code (codes_of more) ∙ ap (with_codes codes) (sym (coded part code more e)) ∙ left_over;
+          used = rw length-append (omega (arith, weighed, some_bytes));
         }
 
-  pub next : get_or line i 0 ≡ 32 → is_ended value digits ≡ true → count < length codes
-      → Reading line (i + 1) 0 0 (count + 1) (set codes count (value % 256))
-  unfolding onto are_digits decimal
-  next is-space ended room =
-      let has-digits : 0 < digits = ltb→lt 0 digits (left (ltb 0 digits) _ (said _ ended)) in
-      let after = codes_of (from line (i + 1)) in
-      record {
-        part = [];
-        rest =
-            ap (λ (n : ℕ). with_codes (take n (set codes count (value % 256))) after) (add-one count)
-            ∙ ap (λ (cs : List ℕ). with_codes cs after) (take-suc-set codes count (value % 256) room)
-            ∙ with_one_more (take count codes) (value % 256) after
-            ∙ ap (λ (v : ℕ). with_codes (take count codes) (with_code v after)) (ended_small value digits ended)
-            ∙ ap (with_codes (take count codes)) (sym (closed r (from line (i + 1)) ∙ rw ended)) ∙ left_parts true (eq-eqb _ _ is-space);
-        are = refl;
-        long = refl;
-        worth = refl;
-        at_most_three = omega arith;
-        small = lit< tt;
-        used = omega (arith, r.used);
-      }
+    pub room : length line ≤ 1024 → take 512 (codes ++ (code ∷ [])) ≡ codes ++ (code ∷ [])
+    room h = take_all 512 (codes ++ (code ∷ [])) (rw length-append (omega (arith, weighed, some_bytes)))
 
-  pub no_space : is_digit (get_or line i 0) && ltb digits 3 ≡ false → (get_or line i 0 ≡ 32 → ⊥) → codes_in line ≡ bad
-  no_space no_digit other =
-      sym (left_parts false (ne_eqb _ _ other)) ∙ ap (with_codes (take count codes)) (spoiled_part r.part (get_or line i 0) (rw r.long no_digit) (from line (i + 1)))
-      ∙ with_bad (take count codes)
+  pub lost : code_in part ≡ None → codes_of (split line) ≡ None
+  lost e = sym left_over ∙ ap (with_codes codes) (uncoded part (drop (k + 1) (split line)) e) ∙ with_none codes
 
-  pub no_code : get_or line i 0 ≡ 32 → is_ended value digits ≡ false → codes_in line ≡ bad
-  no_code is-space none =
-      sym (left_parts true (eq-eqb _ _ is-space)) ∙ ap (with_codes (take count codes)) (closed r (from line (i + 1)) ∙ rw none) ∙ with_bad (take count codes)
-
-module _ (line codes : List ℕ) (value digits count : ℕ) (r : Reading line (length line) value digits count codes) where
-  at_end : with_codes (take count codes) (cond (is_ended value digits) (with_code value (holds [])) bad) ≡ codes_in line
-  unfolding parts codes_of
-  at_end =
-      ap (with_codes (take count codes)) (sym (ap (λ (l : List ℕ). codes_of (onto r.part (parts ([] ∷ []) space l))) (drop-length line) ∙ closed r [])) ∙ r.rest
-
-  pub place : is_ended value digits ≡ true → length line ≤ 1024 → count < 512
-  place ended h = let has-digits : 0 < digits = ltb→lt 0 digits (left (ltb 0 digits) _ (said _ ended)) in omega (arith, r.used)
-
-  pub read : is_ended value digits ≡ true → count < length codes → codes_in line ≡ holds (take (count + 1) (set codes count (value % 256)))
-  unfolding with_code
-  read ended room =
-      sym at_end ∙ ap (with_codes (take count codes)) (rw ended) ∙ with_holds (take count codes) (value ∷ [])
-      ∙ ap (λ (v : ℕ). holds (take count codes ++ (v ∷ []))) (sym (ended_small value digits ended))
-      ∙ ap holds (sym (ap (λ (n : ℕ). take n (set codes count (value % 256))) (add-one count) ∙ take-suc-set codes count (value % 256) room))
-
-  pub cut : is_ended value digits ≡ false → codes_in line ≡ bad
-  cut none = sym at_end ∙ ap (with_codes (take count codes)) (rw none) ∙ with_bad (take count codes)
+pub read : (line codes : List ℕ) (k : ℕ) → k ≡ length (split line) → Read line codes k → codes_of (split line) ≡ Some codes
+unfolding codes_of
+read line codes k end r =
+    sym r.rest ∙ ap (λ (ps : List (List ℕ)). with_codes codes (codes_of ps)) (ap (λ (n : ℕ). drop n (split line)) end ∙ drop-length (split line))
+    ∙ with_some codes [] ∙ ap Some (append-nil codes)

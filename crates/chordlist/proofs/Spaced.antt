@@ -1,10 +1,10 @@
--- A line holds codes exactly when it is their texts with one space between.
+-- A line Some codes exactly when it is their texts with one space between.
 --     spaced_read    such a line is read
 --     read_spaced    and a line that is read is such
-use Rattle.answer.proofs.Kit.{◌≡◌, refl, sym, ap, ap₂, ◌∙◌, Bool, true, true≢false, false, cond, ◌&&◌, List, [], ◌∷◌, ◌++◌, map, append-nil, ℕ, ◌<◌, arith, eqb, leb, ltb, leb→le, ltb→lt, length, length-append, ne_eqb, eqb-true}
+use Rattle.answer.proofs.Kit.{◌≡◌, refl, sym, ap, ap₂, ◌∙◌, Bool, true, true≢false, false, cond, ◌&&◌, List, [], ◌∷◌, ◌++◌, map, append-nil, ℕ, ◌<◌, arith, eqb, leb, ltb, leb→le, ltb→lt, length, length-append, Option, Some, None, ne_eqb, eqb-true}
 use Rattle.answer.proofs.Tests.{left, right, said, is_true}
 use Rattle.chordlist.specs.Parts.{with_byte, parts, joined}
-use Rattle.chordlist.specs.Codes.{Line, bad, holds, space, is_digit, are_digits, decimal, is_code, are_codes, Spaced, with_code, codes_of, codes_in}
+use Rattle.chordlist.specs.Codes.{space, is_digit, are_digits, decimal, is_code, are_codes, Spaced, with_code, codes_of, codes_in}
 use Rattle.chordlist.proofs.Parting.{onto, onto_part}
 
 abbrev cut : List ℕ → List (List ℕ)
@@ -46,7 +46,7 @@ cut_joined p (q ∷ more) are =
     ∙ onto_part p [] (cut (joined space (q ∷ more)))
     ∙ ap₂ ◌∷◌ (append-nil p) (cut_joined q more (second_so (is_code p) _ are))
 
-codes_texts : (texts : List (List ℕ)) → are_codes texts ≡ true → codes_of texts ≡ holds (map (decimal 0) texts)
+codes_texts : (texts : List (List ℕ)) → are_codes texts ≡ true → codes_of texts ≡ Some (map (decimal 0) texts)
 unfolding are_codes codes_of with_code
 codes_texts [] are = refl
 codes_texts (p ∷ more) are = rw (first_so (is_code p) (are_codes more) are) (ap (with_code (decimal 0 p)) (codes_texts more (second_so (is_code p) (are_codes more) are)))
@@ -62,15 +62,15 @@ unfolding joined
 joined_long p [] h = h
 joined_long p (q ∷ more) h = rw length-append (omega arith)
 
-texts_read : (texts : List (List ℕ)) → are_codes texts ≡ true → codes_in (joined space texts) ≡ holds (map (decimal 0) texts)
+texts_read : (texts : List (List ℕ)) → are_codes texts ≡ true → codes_in (joined space texts) ≡ Some (map (decimal 0) texts)
 unfolding are_codes joined codes_in
 texts_read [] are = refl
 texts_read (p ∷ more) are =
     in_parts _ (joined_long p more (code_long p (first_so (is_code p) (are_codes more) are)))
     ∙ ap codes_of (cut_joined p more are) ∙ codes_texts (p ∷ more) are
 
-pub spaced_read : (line codes : List ℕ) → Spaced line codes → codes_in line ≡ holds codes
-spaced_read line codes s = ap codes_in (sym s.between) ∙ texts_read s.texts s.each ∙ ap holds s.worth
+pub spaced_read : (line codes : List ℕ) → Spaced line codes → codes_in line ≡ Some codes
+spaced_read line codes s = ap codes_in (sym s.between) ∙ texts_read s.texts s.each ∙ ap Some s.worth
 
 -- the parts of a line, joined, are the line
 join_byte : (b : ℕ) (ps : List (List ℕ)) → joined space (with_byte b ps) ≡ b ∷ joined space ps
@@ -103,18 +103,18 @@ joined_cut (b ∷ more) = by_case (eqb b space) refl (joined_cut more)
     by_case true e rest = join_next (cut more) (cut_long more) ∙ ap₂ ◌∷◌ (sym (eqb-true b space e)) rest
     by_case false e rest = join_byte b (cut more) ∙ ap (λ (l : List ℕ). b ∷ l) rest
 
-parts_held : (ps : List (List ℕ)) (codes : List ℕ) → codes_of ps ≡ holds codes → (are_codes ps ≡ true) × (map (decimal 0) ps ≡ codes)
+parts_held : (ps : List (List ℕ)) (codes : List ℕ) → codes_of ps ≡ Some codes → (are_codes ps ≡ true) × (map (decimal 0) ps ≡ codes)
 unfolding are_codes codes_of with_code
 parts_held [] codes e = (refl, cc)
 parts_held (p ∷ more) codes e = by_case (is_code p) (codes_of more) e (parts_held more)
   where
-    by_case : (b : Bool) (l : Line) → cond b (with_code (decimal 0 p) l) bad ≡ holds codes → ((cs : List ℕ) → l ≡ holds cs → (are_codes more ≡ true) × (map (decimal 0) more ≡ cs))
+    by_case : (b : Bool) (l : Option (List ℕ)) → cond b (with_code (decimal 0 p) l) None ≡ Some codes → ((cs : List ℕ) → l ≡ Some cs → (are_codes more ≡ true) × (map (decimal 0) more ≡ cs))
         → (b && are_codes more ≡ true) × (decimal 0 p ∷ map (decimal 0) more ≡ codes)
-    by_case true (holds cs) e rest = let r = rest cs refl in let is : decimal 0 p ∷ cs ≡ codes = cc in (r.0, ap (λ (l : List ℕ). decimal 0 p ∷ l) r.1 ∙ is)
-    by_case true bad e rest = absurd (true≢false cc)
+    by_case true (Some cs) e rest = let r = rest cs refl in let is : decimal 0 p ∷ cs ≡ codes = cc in (r.0, ap (λ (l : List ℕ). decimal 0 p ∷ l) r.1 ∙ is)
+    by_case true None e rest = absurd (true≢false cc)
     by_case false l e rest = absurd (true≢false cc)
 
-pub read_spaced : (line codes : List ℕ) → codes_in line ≡ holds codes → Spaced line codes
+pub read_spaced : (line codes : List ℕ) → codes_in line ≡ Some codes → Spaced line codes
 unfolding codes_in are_codes joined
 read_spaced [] codes e = record { texts = []; each = refl; between = refl; worth = cc }
 read_spaced (b ∷ more) codes e =

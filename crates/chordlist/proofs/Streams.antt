@@ -2,11 +2,10 @@
 --     kept_answers    what is kept of a line is answered as the line is
 --     line_ends, line_goes_on     a byte that is LF, and one that is not
 --     held_append     what is kept after two pieces
---     held_short      no more is kept than there is room for
 --     said_append     what two pieces have printed
 --     held_more, said_more, said_all     what is kept and printed of what was read, with a piece more, and with the end
 --     in_pieces       pieces of an input, one after the other, and then its end print `input_text` of the whole
-use Rattle.answer.proofs.Kit.{◌≡◌, refl, sym, ap, ap₂, ◌∙◌, Bool, true, false, ◌⊎◌, inl, inr, ⊎_elim, List, [], ◌∷◌, ◌++◌, append-nil, append_assoc, flat_map, flatten, ℕ, ◌≤◌, ◌<◌, arith, eqb, leb, length, take, length-take, take_all, take-append-le, length-take-le, lt-leb, leb-true, leb-false}
+use Rattle.answer.proofs.Kit.{◌≡◌, refl, sym, ap, ap₂, ◌∙◌, Bool, true, false, ◌⊎◌, inl, inr, ⊎_elim, List, [], ◌∷◌, ◌++◌, append-nil, append_assoc, flat_map, flatten, ℕ, ◌≤◌, ◌<◌, arith, eqb, leb, length, take, take_all, take-append-le, length-take-le, lt-leb, leb-true, leb-false}
 use Rattle.notes.specs.declared.note.Note.{Note}
 use Rattle.chordlist.specs.Parts.{parts}
 use Rattle.chordlist.specs.Replies.{line_text}
@@ -56,15 +55,6 @@ pub held_append : (held p q : List ℕ) → held_after held (p ++ q) ≡ held_af
 unfolding held_after
 held_append held [] q = refl
 held_append held (byte ∷ more) q = held_append (held_with held byte) more q
-
-pub held_short : (held p : List ℕ) → length held ≤ most_kept → length (held_after held p) ≤ most_kept
-unfolding held_after
-held_short held [] h = h
-held_short held (byte ∷ more) h = held_short (held_with held byte) more (go (eqb byte line_feed) refl)
-  where
-    go : (t : Bool) → eqb byte line_feed ≡ t → length (held_with held byte) ≤ most_kept
-    go true e = rw (line_ends [] held byte e).0 (omega arith)
-    go false e = rw (line_goes_on [] held byte e).0 (omega (arith, length-take most_kept (held ++ (byte ∷ []))))
 
 module _ (names : List Note) where
   pub said_append : (held p q : List ℕ) → said_by names held (p ++ q) ≡ said_by names held p ++ said_by names (held_after held p) q

@@ -1,11 +1,6 @@
 -- The codes of a line: paper 01, program `chordlist`.
-use Rattle.std.specs.Prelude.{◌≡◌, Bool, true, cond, ◌&&◌, List, [], ◌∷◌, map, ℕ, ◌+◌, ◌-◌, ◌*◌, leb, ltb, length}
+use Rattle.std.specs.Prelude.{◌≡◌, Bool, true, cond, ◌&&◌, List, [], ◌∷◌, map, ℕ, ◌+◌, ◌-◌, ◌*◌, leb, ltb, length, Option, Some, None}
 use Rattle.chordlist.specs.Parts.{parts, joined}
-
--- what a line holds: its codes, or nothing that can be read
-pub data Line : Type 0 where
-  bad : Line
-  holds : List ℕ → Line
 
 -- the bytes `0`, `9` and space
 abbrev pub digit0 : ℕ
@@ -47,17 +42,17 @@ pub record Spaced (line codes : List ℕ) : Type 0 where
   pub between : joined space texts ≡ line
   pub worth : map (decimal 0) texts ≡ codes
 
--- a line with a code in front
-unfoldable pub with_code : ℕ → Line → Line
-with_code code bad = bad
-with_code code (holds codes) = holds (code ∷ codes)
+-- what a line holds, its codes or nothing that can be read, with a code in front
+unfoldable pub with_code : ℕ → Option (List ℕ) → Option (List ℕ)
+with_code code None = None
+with_code code (Some codes) = Some (code ∷ codes)
 
 -- the codes of parts, each of which has to be one
-unfoldable pub codes_of : List (List ℕ) → Line
-codes_of [] = holds []
-codes_of (part ∷ more) = cond (is_code part) (with_code (decimal 0 part) (codes_of more)) bad
+unfoldable pub codes_of : List (List ℕ) → Option (List ℕ)
+codes_of [] = Some []
+codes_of (part ∷ more) = cond (is_code part) (with_code (decimal 0 part) (codes_of more)) None
 
 -- "one space between": before each space and behind it stands a code. An empty line has none
-unfoldable pub codes_in : List ℕ → Line
-codes_in [] = holds []
+unfoldable pub codes_in : List ℕ → Option (List ℕ)
+codes_in [] = Some []
 codes_in (byte ∷ more) = codes_of (parts ([] ∷ []) space (byte ∷ more))

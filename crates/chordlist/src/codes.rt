@@ -1,59 +1,52 @@
 // The codes that a line of text holds: decimal, one to three digits each, one space between.
-ghost use Rattle.std.specs.Prelude.{◌≡◌, ◌&&◌, ◌≤◌, leb, ltb, length};
-ghost use Rattle.chordlist.specs.private.Calls.{Reads};
+ghost use Rattle.std.specs.Prelude.{◌≡◌, ◌≤◌, length};
+ghost use Rattle.chordlist.specs.Codes.{codes_in};
+ghost use Rattle.chordlist.specs.private.Calls.{code_in};
 
-// The largest code, and the most digits that one has.
+use crate::bytes::Bytes;
+
+// The fewest and the most digits of a code, and the largest code.
+const FEWEST: usize = 1;
+
+const MOST: usize = 3;
+
 const LAST_CODE: u32 = 255;
 
-const DIGITS: u32 = 3;
+const SPACE: u8 = b' ';
 
-const SPACE: u8 = 32;
+// The most codes that a line has.
+const CODES: usize = 512;
 
-const ZERO: u8 = 48;
-
-const NINE: u8 = 57;
-
-// A code can end here.
-fn is_ended(value: u32, digits: u32) -> bool
-    ensures { result ≡ ltb 0 digits && leb value 255 }
+// The code that stands between spaces.
+fn code(part: &[u8]) -> Option<u8>
+    ensures { result ≡ code_in part.now }
 {
-    (0 < digits) & (value <= LAST_CODE)
-}
-
-// Reads the codes of a line to the front of `codes`.
-pub(crate) fn read_codes(line: &[u8], codes: &mut [u8]) -> Option<usize>
-    requires { (length line.now ≤ 1024) × (512 ≤ length codes.old) }
-    ensures { Reads line.now result codes.new }
-{
-    if line.len() == 0 {
-        return Some(0);
-    }
-    let mut value: u32 = 0;
-    let mut digits: u32 = 0;
-    let mut count = 0;
-    let mut i = 0;
-    while i < line.len() {
-        let byte = line[i];
-        if (ZERO <= byte) & (byte <= NINE) & (digits < DIGITS) {
-            value = value * 10 + ((byte - ZERO) as u32);
-            digits += 1;
-        } else {
-            if byte != SPACE {
-                return None;
-            }
-            if !is_ended(value, digits) {
-                return None;
-            }
-            codes[count] = (value % 256) as u8;
-            count += 1;
-            value = 0;
-            digits = 0;
-        }
-        i += 1;
-    }
-    if !is_ended(value, digits) {
+    if part.len() < FEWEST || part.len() > MOST {
         return None;
     }
-    codes[count] = (value % 256) as u8;
-    Some(count + 1)
+    let mut value: u32 = 0;
+    for &byte in part {
+        if !byte.is_ascii_digit() {
+            return None;
+        }
+        value = value * 10 + u32::from(byte - b'0');
+    }
+    if value > LAST_CODE {
+        return None;
+    }
+    Some(value as u8)
+}
+
+pub(crate) fn read_codes(line: &[u8]) -> Option<Bytes<CODES>>
+    requires { length line.now ≤ 1024 }
+    ensures { result ≡ codes_in line.now }
+{
+    if line.is_empty() {
+        return Some(Bytes::new());
+    }
+    let mut codes = Bytes::new();
+    for part in line.split(|byte| *byte == SPACE) {
+        codes.push(code(part)?);
+    }
+    Some(codes)
 }

@@ -2,19 +2,19 @@
 // stop; a question mark for a line that can't be read, or has a code that is no key.
 #![tactic(auto)]
 
+mod bytes;
 mod codes;
 mod input;
 mod reply;
 
-ghost use Rattle.std.specs.Prelude.{◌≡◌, ℕ, ◌-◌, ◌^◌, ◌<◌, ◌≤◌, List, length as size, take, IfSome, IfOk, OnOk, OnErr};
+ghost use Rattle.std.specs.Prelude.{◌≡◌, ℕ, ◌-◌, ◌^◌, ◌<◌, List, length as size, take, IfSome, OnOk, OnErr};
 ghost use Rattle.std.specs.Io.KnownBytes.{Appends, Consumes, IsAtEnd};
-ghost use Rattle.answer.specs.Written.{Writes};
 ghost use Rattle.names.specs.Names.{flats};
 ghost use Rattle.chordlist.specs.Input.{input_text};
-ghost use Rattle.chordlist.specs.private.Pieces.{most_kept, held_after, said_by};
+ghost use Rattle.chordlist.specs.private.Pieces.{held_after, said_by};
 
-use input::{KEPT, finish, take_in};
-use reply::ROOM;
+use input::{Line, finish, take_in};
+use reply::Answer;
 use std::io;
 use std::io::{Read, Write};
 
@@ -22,25 +22,19 @@ use std::io::{Read, Write};
 const PIECE: usize = 4096;
 
 // Takes in a piece of the input byte by byte, and prints what each has written.
-fn feed<W: Write>(piece: &[u8], line: &mut [u8], length: usize, output: &mut W) -> io::Result<usize>
-    requires { (length ≤ most_kept) × (size line.old ≡ most_kept) }
-    ensures held { IfOk result (λ kept. Writes line.old 0 (held_after (take length line.old) piece.now) kept line.new) }
-    ensures said { OnOk result (Appends (W.contents output.old) (W.contents output.new) (said_by flats (take length line.old) piece.now)) }
+fn feed<W: Write>(piece: &[u8], line: &mut Line, output: &mut W) -> io::Result<()>
+    ensures held { OnOk result (line.new ≡ held_after line.old piece.now) }
+    ensures said { OnOk result (Appends (W.contents output.old) (W.contents output.new) (said_by flats line.old piece.now)) }
 
     // The error is the output's, of which std says nothing then. The line holds what is kept after some of the piece.
-    ensures failed { OnErr result ((taken : ℕ) × (kept : ℕ) × Writes line.old 0 (held_after (take length line.old) (take taken piece.now)) kept line.new) }
+    ensures failed { OnErr result ((taken : ℕ) × (line.new ≡ held_after line.old (take taken piece.now))) }
 {
-    let mut out = [0u8; ROOM];
-    let mut kept = length;
-    let mut i = 0;
-    while i < piece.len() {
-        let taken = take_in(piece[i], line, kept, &mut out);
-        let written = taken.written;
-        output.write_all(&out[..written])?;
-        kept = taken.kept;
-        i += 1;
+    let mut answer = Answer::new();
+    for &byte in piece {
+        take_in(byte, line, &mut answer);
+        output.write_all(answer.as_slice())?;
     }
-    Ok(kept)
+    Ok(())
 }
 
 // Answers the lines of an input, which comes in pieces. A proved loop has to end, and nothing says that the input does: the
@@ -53,19 +47,18 @@ fn answer_all<R: Read, W: Write>(input: &mut R, output: &mut W) -> io::Result<()
     // After an error of either, the input has lost the bytes that were read, and no others; of the output std says nothing.
     ensures failed { OnErr result ((read : List ℕ) × Consumes (R.remaining input.old) (R.remaining input.new) read) }
 {
-    let mut line = [0u8; KEPT];
-    let mut length = 0;
+    let mut line = Line::new();
     let mut piece = [0u8; PIECE];
     for _ in 0..u64::MAX {
         let count = input.read(&mut piece)?;
         if count == 0 {
             break;
         }
-        length = feed(&piece[..count], &mut line, length, output)?;
+        feed(&piece[..count], &mut line, output)?;
     }
-    let mut out = [0u8; ROOM];
-    let written = finish(&line[..length], &mut out);
-    output.write_all(&out[..written])
+    let mut answer = Answer::new();
+    finish(&line, &mut answer);
+    output.write_all(answer.as_slice())
 }
 
 fn main(rt: HostRuntime) -> io::Result<()> {

@@ -1,54 +1,49 @@
 // The text that answers a line: the candidates of its keys and a full stop, or a question mark.
-ghost use Rattle.std.specs.Prelude.{◌≤◌, length};
+ghost use Rattle.std.specs.Prelude.{◌≡◌};
 ghost use Rattle.names.specs.Names.{flats};
 ghost use Rattle.chordlist.specs.Replies.{bad_text, codes_text, line_text};
-ghost use Rattle.chordlist.specs.private.Calls.{most_printed, Printed};
 
+use crate::bytes::Bytes;
 use crate::codes::read_codes;
 use strict::entry::candidates_strict;
 
 // Candidates have at most 840 bytes, and then comes the line `.`.
-pub const ROOM: usize = 842;
+const ROOM: usize = 842;
 
-// The most bytes that a line has before its end, and the most codes that those hold.
+pub(crate) type Answer = Bytes<ROOM>;
+
+// The most bytes that a line has before its end.
 const LONGEST: usize = 1024;
 
-const CODES: usize = 512;
-
-// Writes what is printed for a line.
-pub(crate) fn reply(line: &[u8], out: &mut [u8]) -> usize
-    requires { most_printed ≤ length out.old }
-    ensures { Printed (line_text flats line.now) out.old result out.new }
+pub(crate) fn reply(line: &[u8], answer: &mut Answer)
+    ensures { answer.new ≡ line_text flats line.now }
 {
     if line.len() <= LONGEST {
-        let mut codes = [0u8; CODES];
-        if let Some(count) = read_codes(line, &mut codes) {
-            return reply_codes(&codes[..count], out);
+        if let Some(codes) = read_codes(line) {
+            return reply_codes(codes.as_slice(), answer);
         }
     }
-    reply_bad(out)
+    reply_bad(answer);
 }
 
-fn reply_codes(codes: &[u8], out: &mut [u8]) -> usize
-    requires { most_printed ≤ length out.old }
-    ensures { Printed (codes_text flats codes.now) out.old result out.new }
+fn reply_codes(codes: &[u8], answer: &mut Answer)
+    ensures { answer.new ≡ codes_text flats codes.now }
 {
-    match candidates_strict(codes, out) {
+    match candidates_strict(codes, &mut answer.array) {
         Ok(count) => {
-            out[count] = b'.';
-            out[count + 1] = b'\n';
-            count + 2
+            answer.len = count;
+            answer.push(b'.');
+            answer.push(b'\n');
         }
         // A code above 127, since there is room for all candidates.
-        Err(_) => reply_bad(out),
+        Err(_) => reply_bad(answer),
     }
 }
 
-fn reply_bad(out: &mut [u8]) -> usize
-    requires { most_printed ≤ length out.old }
-    ensures { Printed bad_text out.old result out.new }
+fn reply_bad(answer: &mut Answer)
+    ensures { answer.new ≡ bad_text }
 {
-    out[0] = b'?';
-    out[1] = b'\n';
-    2
+    answer.clear();
+    answer.push(b'?');
+    answer.push(b'\n');
 }

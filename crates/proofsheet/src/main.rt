@@ -5,7 +5,6 @@ ghost use Rattle.std.specs.Prelude.{◌<◌};
 
 use answer::refusal::Refusal;
 use inference::normalize::suffix;
-use intervals::bass::Bass;
 use listing::search::listing;
 use notes::note::Note;
 use qualities::quality::quality;
@@ -14,60 +13,47 @@ use std::io;
 use voicings::range::{HIGHEST, LOWEST};
 use voicings::voicing::{Chord, voicing};
 
-fn print(rt: &impl Print, text: &[u8]) -> io::Result<()> {
-    rt.write_all(text)
-}
-
-fn print_number(rt: &impl Print, number: u32) -> io::Result<()> {
-    rt.print(number)
-}
-
 fn print_refusal(rt: &impl Print, why: Refusal) -> io::Result<()> {
-    print(rt, b"refused ")?;
-    print_number(rt, why.number())
+    let number = why.number();
+    println!(rt; "refused {number}")
 }
 
 // A text that a call wrote.
 fn print_text(rt: &impl Print, output: Result<usize, Refusal>, out: &[u8]) -> io::Result<()> {
     match output {
         Ok(count) => {
-            if count <= out.len() {
-                print(rt, &out[..count])?;
+            if let Some(text) = out.get(..count) {
+                rt.write_all(text)?;
             }
+            rt.write_all(b"\n")
         }
-        Err(why) => print_refusal(rt, why)?,
+        Err(why) => print_refusal(rt, why),
     }
-    print(rt, b"\n")
 }
 
-// Numbers of one byte each, or of two, the higher first, with a space before each.
-fn print_numbers(rt: &impl Print, output: Result<usize, Refusal>, out: &[u8], of_two: bool) -> io::Result<()> {
+// Numbers of so many bytes each, the higher first, with a space before each.
+fn print_numbers(
+    rt: &impl Print,
+    output: Result<usize, Refusal>,
+    out: &[u8],
+    size: usize,
+) -> io::Result<()>
+    requires { 0 < size }
+{
     match output {
         Ok(count) => {
-            let mut number: u32 = 0;
-            let mut i = 0;
-            while i < count {
-                if i >= out.len() {
-                    break;
-                }
-                number = number % 256 * 256 + wide(out[i]);
-                i += 1;
-                if !of_two | (i % 2 == 0) {
-                    print(rt, b" ")?;
-                    print_number(rt, number)?;
-                    number = 0;
+            if let Some(numbers) = out.get(..count) {
+                for bytes in numbers.chunks_exact(size) {
+                    let number = bytes
+                        .iter()
+                        .fold(0, |high, byte| high % 256 * 256 + u32::from(*byte));
+                    print!(rt; " {number}")?;
                 }
             }
+            rt.write_all(b"\n")
         }
-        Err(why) => print_refusal(rt, why)?,
+        Err(why) => print_refusal(rt, why),
     }
-    print(rt, b"\n")
-}
-
-fn wide(byte: u8) -> u32
-    ensures { result < 256 }
-{
-    byte as u32
 }
 
 fn print_suffix(rt: &impl Print, set: u32) -> io::Result<()> {
@@ -79,16 +65,15 @@ fn print_suffix(rt: &impl Print, set: u32) -> io::Result<()> {
 // Qualities by their numbers.
 fn print_quality(rt: &impl Print, set: u32) -> io::Result<()> {
     match quality(set) {
-        Ok(found) => print_number(rt, found.number())?,
-        Err(why) => print_refusal(rt, why)?,
+        Ok(found) => rt.println(found.number()),
+        Err(why) => print_refusal(rt, why),
     }
-    print(rt, b"\n")
 }
 
 fn print_listing(rt: &impl Print, name: &[u8]) -> io::Result<()> {
     let mut out = [0u8; 16];
     let output = listing(name, &mut out);
-    print_numbers(rt, output, &out, true)
+    print_numbers(rt, output, &out, 2)
 }
 
 // On C.
@@ -112,7 +97,7 @@ fn print_voicing(
         intervals,
         &mut out,
     );
-    print_numbers(rt, output, &out, false)
+    print_numbers(rt, output, &out, 1)
 }
 
 fn print_tones(rt: &impl Print, root: u32, set: u32) -> io::Result<()> {
@@ -134,19 +119,12 @@ fn print_moved(rt: &impl Print, from: Note, note: Note, to: Note) -> io::Result<
 }
 
 fn print_symbols(rt: &impl Print) -> io::Result<()> {
-    print_suffix(rt, 1)?;
-    print_suffix(rt, 145)?;
-    print_suffix(rt, 257)?;
-    print_suffix(rt, 693)?;
-    print_suffix(rt, 1683)?;
-    print_suffix(rt, 1687)?;
-    print_suffix(rt, 1177)?;
-    print_suffix(rt, 1209)?;
-    print_quality(rt, 0)?;
-    print_quality(rt, 128)?;
-    print_quality(rt, 129)?;
-    print_quality(rt, 1057)?;
-    print_quality(rt, 2577)?;
+    for set in [1, 145, 257, 693, 1683, 1687, 1177, 1209] {
+        print_suffix(rt, set)?;
+    }
+    for set in [0, 128, 129, 1057, 2577] {
+        print_quality(rt, set)?;
+    }
     print_listing(rt, b"+")?;
     print_listing(rt, b"7(b13)")
 }

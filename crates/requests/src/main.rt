@@ -16,13 +16,14 @@
 // the listing whole or cut, or more than it. Behind the number stand the start, the length and the line.
 #![tactic(auto)]
 
-mod line;
+mod parts;
 mod print;
 
 ghost use Rattle.std.specs.Io.{ReadsAtMost};
 
-use crate::line::{asks, bytes, number, part, signed};
-use crate::print::{print, print_bytes, print_given, print_part, print_size};
+use crate::parts::{Parts, RANGE};
+use crate::print::{print_bytes, print_part, print_size};
+use answer::text::Text;
 use hemotusap::moves::{hemotusap_get_note, hemotusap_transpose};
 use hemotusap::naming::{hemotusap_note_text, hemotusap_quality};
 use hemotusap::scores::hemotusap_harmony;
@@ -40,156 +41,118 @@ const LINE_FEED: u8 = b'\n';
 // The most bytes of input; a list that is longer is not begun.
 const INPUT: usize = 262144;
 
-// The most bytes that a range has.
-const RANGE: usize = 1200;
-
 const FULL_STOP: u8 = b'.';
 
-// No call gives this back: none has the name that was asked.
-const UNKNOWN: i64 = i64::MIN;
+fn candidate(mut parts: Parts) -> i64 {
+    let number = parts.number();
+    hemotusap_candidate(parts.bytes().as_slice(), number)
+}
 
-fn transpose(line: &[u8]) -> i64 {
-    hemotusap_transpose(
-        number(line, 1),
-        signed(line, 2),
-        number(line, 3),
-        signed(line, 4),
-        number(line, 5),
-        signed(line, 6),
+fn get_note(mut parts: Parts) -> i64 {
+    hemotusap_get_note(
+        parts.number(),
+        parts.signed(),
+        parts.number(),
+        parts.number(),
     )
 }
 
-// Within the keys that the line names last, or with none named.
-fn voicing(line: &[u8], out: &mut [u8], within: bool) -> i64 {
-    let mut classes = [0u8; RANGE];
-    let mut intervals = [0u8; RANGE];
-    let class_count = bytes(line, 5, &mut classes);
-    let interval_count = bytes(line, 6, &mut intervals);
-    if within {
-        return hemotusap_voicing_within(
-            number(line, 2),
-            number(line, 3),
-            number(line, 7),
-            number(line, 8),
-            &classes[..class_count],
-            &intervals[..interval_count],
-            number(line, 4),
-            out,
-        );
+fn transpose(mut parts: Parts) -> i64 {
+    hemotusap_transpose(
+        parts.number(),
+        parts.signed(),
+        parts.number(),
+        parts.signed(),
+        parts.number(),
+        parts.signed(),
+    )
+}
+
+// The chord that a request for a voicing names.
+#[derive(Drop)]
+struct Chord {
+    root: u32,
+    bass: u32,
+    lead: u32,
+    classes: Text<RANGE>,
+    intervals: Text<RANGE>,
+}
+
+impl Chord {
+    fn read(parts: &mut Parts) -> Chord {
+        Chord {
+            root: parts.number(),
+            bass: parts.number(),
+            lead: parts.number(),
+            classes: parts.bytes(),
+            intervals: parts.bytes(),
+        }
     }
+}
+
+fn voicing(mut parts: Parts, out: &mut [u8]) -> i64 {
+    let chord = Chord::read(&mut parts);
     hemotusap_voicing(
-        number(line, 2),
-        number(line, 3),
-        &classes[..class_count],
-        &intervals[..interval_count],
-        number(line, 4),
+        chord.root,
+        chord.bass,
+        chord.classes.as_slice(),
+        chord.intervals.as_slice(),
+        chord.lead,
         out,
     )
 }
 
-// One of the four entries for candidates.
-fn entry(codes: &[u8], out: &mut [u8], strict: bool, sharp: bool) -> i64 {
-    if strict & sharp {
-        return hemotusap_candidates_strict_sharp(codes, out);
-    }
-    if strict {
-        return hemotusap_candidates_strict(codes, out);
-    }
-    if sharp {
-        return hemotusap_candidates_sharp(codes, out);
-    }
-    hemotusap_candidates(codes, out)
-}
-
-fn candidates(line: &[u8], out: &mut [u8], strict: bool, sharp: bool) -> i64 {
-    let mut codes = [0u8; RANGE];
-    let count = bytes(line, 2, &mut codes);
-    entry(&codes[..count], out, strict, sharp)
-}
-
-fn candidate_count(line: &[u8]) -> i64 {
-    let mut codes = [0u8; RANGE];
-    let count = bytes(line, 1, &mut codes);
-    hemotusap_candidate_count(&codes[..count])
-}
-
-fn candidate(line: &[u8]) -> i64 {
-    let mut codes = [0u8; RANGE];
-    let count = bytes(line, 2, &mut codes);
-    hemotusap_candidate(&codes[..count], number(line, 1))
-}
-
-// A call that writes nothing.
-fn plain(line: &[u8]) -> i64 {
-    if asks(line, b"quality") {
-        return hemotusap_quality(number(line, 1));
-    }
-    if asks(line, b"candidate_count") {
-        return candidate_count(line);
-    }
-    if asks(line, b"candidate") {
-        return candidate(line);
-    }
-    if asks(line, b"get_note") {
-        return hemotusap_get_note(
-            number(line, 1),
-            signed(line, 2),
-            number(line, 3),
-            number(line, 4),
-        );
-    }
-    if asks(line, b"transpose") {
-        return transpose(line);
-    }
-    UNKNOWN
+fn voicing_within(mut parts: Parts, out: &mut [u8]) -> i64 {
+    let chord = Chord::read(&mut parts);
+    hemotusap_voicing_within(
+        chord.root,
+        chord.bass,
+        parts.number(),
+        parts.number(),
+        chord.classes.as_slice(),
+        chord.intervals.as_slice(),
+        chord.lead,
+        out,
+    )
 }
 
 // A call that writes into a lent range.
-fn writing(line: &[u8], out: &mut [u8]) -> i64 {
-    if asks(line, b"suffix") {
-        return hemotusap_suffix(number(line, 2), out);
-    }
-    if asks(line, b"candidates") {
-        return candidates(line, out, false, false);
-    }
-    if asks(line, b"candidates_strict") {
-        return candidates(line, out, true, false);
-    }
-    if asks(line, b"candidates_sharp") {
-        return candidates(line, out, false, true);
-    }
-    if asks(line, b"candidates_strict_sharp") {
-        return candidates(line, out, true, true);
-    }
-    if asks(line, b"tones") {
-        return hemotusap_tones(number(line, 2), number(line, 3), out);
-    }
-    if asks(line, b"note_text") {
-        return hemotusap_note_text(number(line, 2), signed(line, 3), out);
-    }
-    if asks(line, b"listing") {
-        return hemotusap_listing(&line[part(line, 2)..], out);
-    }
-    if asks(line, b"voicing") {
-        return voicing(line, out, false);
-    }
-    if asks(line, b"voicing_within") {
-        return voicing(line, out, true);
-    }
-    if asks(line, b"harmony") {
-        return hemotusap_harmony(number(line, 2), number(line, 3), number(line, 4), out);
-    }
-    UNKNOWN
+fn writing(name: &[u8], mut parts: Parts, out: &mut [u8]) -> Option<i64> {
+    Some(match name {
+        b"suffix" => hemotusap_suffix(parts.number(), out),
+        b"candidates" => hemotusap_candidates(parts.bytes().as_slice(), out),
+        b"candidates_strict" => hemotusap_candidates_strict(parts.bytes().as_slice(), out),
+        b"candidates_sharp" => hemotusap_candidates_sharp(parts.bytes().as_slice(), out),
+        b"candidates_strict_sharp" => hemotusap_candidates_strict_sharp(
+            parts.bytes().as_slice(),
+            out,
+        ),
+        b"tones" => hemotusap_tones(parts.number(), parts.number(), out),
+        b"note_text" => hemotusap_note_text(parts.number(), parts.signed(), out),
+        b"listing" => hemotusap_listing(parts.rest, out),
+        b"voicing" => voicing(parts, out),
+        b"voicing_within" => voicing_within(parts, out),
+        b"harmony" => hemotusap_harmony(parts.number(), parts.number(), parts.number(), out),
+        _ => return None,
+    })
 }
 
 // Numbers are printed as numbers, texts as they are.
-fn reply_writing(rt: &impl Print, line: &[u8], out: &mut [u8]) -> io::Result<()> {
-    print_given(rt, writing(line, out))?;
-    if asks(line, b"listing") | asks(line, b"voicing") | asks(line, b"voicing_within") {
-        print_bytes(rt, out)
-    } else {
-        print(rt, b" ")?;
-        print(rt, out)
+fn reply_writing(rt: &impl Print, name: &[u8], mut parts: Parts) -> io::Result<()> {
+    let room = parts.number() as usize;
+    let mut range = [FULL_STOP; RANGE];
+    let Some(out) = range.get_mut(..room) else {
+        return Ok(());
+    };
+    if let Some(given) = writing(name, parts, out) {
+        rt.print(given)?;
+    }
+    match name {
+        b"listing" | b"voicing" | b"voicing_within" => print_bytes(rt, out),
+        _ => {
+            rt.write_all(b" ")?;
+            rt.write_all(out)
+        }
     }
 }
 
@@ -197,71 +160,57 @@ fn reply_part<'a>(
     rt: &impl Print,
     flat: &'a [u8],
     sharp: &'a [u8],
-    line_number: u32,
+    number: u32,
     fifths: i32,
 ) -> io::Result<()> {
     // No answer has these, so that one which is not written shows.
     let mut start = u64::MAX;
     let mut length = u64::MAX;
-    let given = hemotusap_candidate_line(flat, sharp, line_number, fifths, &mut start, &mut length);
-    print_given(rt, given)?;
+    let given = hemotusap_candidate_line(flat, sharp, number, fifths, &mut start, &mut length);
+    rt.print(given)?;
     print_size(rt, start)?;
     print_size(rt, length)?;
-    print(rt, b" ")?;
-    if given == 0 {
-        print_part(rt, flat, start, length)
-    } else {
-        print_part(rt, sharp, start, length)
-    }
+    rt.write_all(b" ")?;
+    print_part(rt, if given == 0 { flat } else { sharp }, start, length)
 }
 
-fn reply_candidate_line(rt: &impl Print, line: &[u8]) -> io::Result<()> {
+fn reply_candidate_line(rt: &impl Print, mut parts: Parts) -> io::Result<()> {
+    let number = parts.number();
+    let codes = parts.bytes();
+    let fifths = parts.signed();
     let mut flat = [FULL_STOP; RANGE];
     let mut sharp = [FULL_STOP; RANGE];
-    candidates(line, &mut flat, false, false);
-    candidates(line, &mut sharp, false, true);
-    let flat_length = number(line, 4) as usize;
-    let sharp_length = number(line, 5) as usize;
-    if flat_length <= RANGE {
-        if sharp_length <= RANGE {
-            return reply_part(
-                rt,
-                &flat[..flat_length],
-                &sharp[..sharp_length],
-                number(line, 1),
-                signed(line, 3),
-            );
-        }
-    }
-    Ok(())
+    hemotusap_candidates(codes.as_slice(), &mut flat);
+    hemotusap_candidates_sharp(codes.as_slice(), &mut sharp);
+    let Some(flat) = flat.get(..parts.number() as usize) else {
+        return Ok(());
+    };
+    let Some(sharp) = sharp.get(..parts.number() as usize) else {
+        return Ok(());
+    };
+    reply_part(rt, flat, sharp, number, fifths)
 }
 
 fn reply(rt: &impl Print, line: &[u8]) -> io::Result<()> {
-    if asks(line, b"candidate_line") {
-        return reply_candidate_line(rt, line);
+    let mut parts = Parts { rest: line };
+    match parts.next() {
+        b"quality" => rt.print(hemotusap_quality(parts.number())),
+        b"candidate_count" => rt.print(hemotusap_candidate_count(parts.bytes().as_slice())),
+        b"candidate" => rt.print(candidate(parts)),
+        b"get_note" => rt.print(get_note(parts)),
+        b"transpose" => rt.print(transpose(parts)),
+        b"candidate_line" => reply_candidate_line(rt, parts),
+        name => reply_writing(rt, name, parts),
     }
-    let given = plain(line);
-    if given != UNKNOWN {
-        return print_given(rt, given);
-    }
-    let room = number(line, 1) as usize;
-    let mut range = [FULL_STOP; RANGE];
-    if room <= RANGE {
-        return reply_writing(rt, line, &mut range[..room]);
-    }
-    Ok(())
 }
 
+// Bytes behind the last line feed are no line.
 fn reply_all(rt: &impl Print, input: &[u8]) -> io::Result<()> {
-    let mut start = 0;
-    let mut at = 0;
-    while at < input.len() {
-        if input[at] == LINE_FEED {
-            reply(rt, &input[start..at])?;
-            print(rt, b"\n")?;
-            start = at + 1;
+    for line in input.split_inclusive(|byte| *byte == LINE_FEED) {
+        if let [line @ .., LINE_FEED] = line {
+            reply(rt, line)?;
+            rt.write_all(b"\n")?;
         }
-        at += 1;
     }
     Ok(())
 }

@@ -1,21 +1,19 @@
 -- `chordlist::answer_all` meets its contract.
-use Rattle.answer.proofs.Kit.{◌≡◌, refl, sym, subst, ◌∙◌, ◌++◌, [], List, ℕ, arith, take, length-take, length-take-le, length-append}
-use Rattle.std.proofs.Common.{length as size}
+use Rattle.answer.proofs.Kit.{◌≡◌, refl, subst, ◌∙◌, ◌++◌, [], List, ℕ, arith, take, length, length-append, length-take-le}
 use Rattle.std.proofs.Common.{Option, append-nil}
 use Rattle.std.proofs.lemmas.Result.{on_ok_weaker}
 use Rattle.std.specs.Io.KnownBytes.{Appends, Consumes}
 use Rattle.std.proofs.KnownBytes.{Appends-nil, Appends-trans, Consumes-nil, Consumes-trans}
 use Rattle.names.specs.Names.{flats}
 use Rattle.chordlist.specs.private.Pieces.{held_after, said_by}
-use Rattle.chordlist.proofs.Printing.{fronted, with_error}
-use Rattle.chordlist.proofs.Streams.{held_more, held_short, said_more, said_all}
+use Rattle.chordlist.proofs.Printing.{with_error}
+use Rattle.chordlist.proofs.Streams.{held_more, said_more, said_all}
 use Rattle.chordlist.proofs.answer_all.Goals as goal
 use Rattle.chordlist.proofs.answer_all.Goals.{else-loop-test, then-loop-test+in_ok-count+then-count-eq0}
 
 pub loop-init : goal.loop-init
 unfolding held_after said_by
-loop-init g c =
-    record { line = refl; piece = refl; kept = omega arith; read = []; turns = omega arith; left = Consumes-nil _; held = refl; said = Appends-nil _ }
+loop-init g c = record { piece = refl; read = []; turns = omega arith; left = Consumes-nil _; held = c.new-line.ensures; said = Appends-nil _ }
 
 pub loop-preserved : goal.loop-preserved
 loop-preserved g c =
@@ -23,38 +21,26 @@ loop-preserved g c =
     let i = h.invariant in
     let n = c.in_ok-count.count in
     let piece = take n c.read.new.buf in
-    let held = take h.length h.line in
-    let told = c.in_ok-length.ensures.held in
-    let long : size piece ≡ n = length-take-le n c.read.new.buf (omega (arith, c.in_ok-count.ensures.bound)) in
-    let short = held_short held piece (omega (arith, length-take h.length h.line)) in
+    let long : length piece ≡ n = length-take-le n c.read.new.buf (omega (arith, c.in_ok-count.ensures.bound)) in
     record {
-      line = c.feed.auto.line ∙ i.line;
       piece = c.read.auto.buf ∙ i.piece;
-      kept = omega (arith, told.place, short);
       read = i.read ++ piece;
       turns = omega (arith, length-append i.read piece);
       left = Consumes-trans _ _ _ _ _ i.left c.in_ok-count.ensures.bytes.0;
-      held = held_more [] i.read held piece _ i.held told.added;
+      held = held_more [] i.read h.line piece _ i.held c.in_ok-feed.ensures.held;
       said = subst (Appends (g.W.Write.contents c.args.output.now) (g.W.Write.contents c.feed.new.output))
-          (said_more flats i.read held piece i.held)
-          (Appends-trans _ _ _ _ _ i.said c.in_ok-length.ensures.said);
+          (said_more flats i.read h.line piece i.held)
+          (Appends-trans _ _ _ _ _ i.said c.in_ok-feed.ensures.said);
     }
-
--- what the end has written lies within the range
-pub slice_bounds-out-end : goal.slice_bounds-out-end
-slice_bounds-out-end g c = omega (arith, (fronted c.finish-written.ensures).fits, c.finish-written.auto.out)
-
-pub slice_bounds-write_all-end : goal.slice_bounds-write_all-end
-slice_bounds-write_all-end g c = sym (length-take-le _ _ (omega (arith, (fronted c.finish-written.ensures).fits, c.finish-written.auto.out)))
 
 -- a read of none leaves what was read
 none_more : (a b c : Option (List ℕ)) (bs cs : List ℕ) (n : ℕ) → n ≡ 0 → Consumes a b bs → Consumes b c (take n cs) → Consumes a c bs
 none_more a b c bs cs n e p q = rw append-nil at (Consumes-trans a b c bs [] p (rw e at q))
 
-pub returns-in_err-length-clause-failed : goal.returns-in_err-length-clause-failed
-returns-in_err-length-clause-failed g c =
+pub returns-in_err-feed-clause-failed : goal.returns-in_err-feed-clause-failed
+returns-in_err-feed-clause-failed g c =
     let i = c.loop.invariant in
-    with_error c.from_residual-in_err-length.result
+    with_error c.from_residual-in_err-feed.result
     (i.read ++ take c.in_ok-count.count c.read.new.buf, Consumes-trans _ _ _ _ _ i.left c.in_ok-count.ensures.bytes.0)
 
 pub returns-clause-answered : goal.returns-clause-answered
@@ -65,12 +51,12 @@ returns-clause-answered g c =
       | else-loop-test w ↦ rw w.input-is i.left
       | then-loop-test+in_ok-count+then-count-eq0 w ↦ rw w.input-is (none_more _ _ _ _ _ _ w.if-count-eq0.true i.left w.in_ok-count.ensures.bytes.0)
     ] in
-    let all = said_all flats i.read (take c.loop.length c.loop.line) i.held in
+    let all = said_all flats i.read c.loop.line i.held in
     on_ok_weaker c.write_all.result
     (λ more. (
       i.read,
       left,
       subst (Appends (g.W.Write.contents c.args.output.now) (g.W.Write.contents c.write_all.new.self)) all
-          (Appends-trans _ _ _ _ _ i.said (rw (fronted c.finish-written.ensures).front at more)),
+          (Appends-trans _ _ _ _ _ i.said (rw (c.as_slice.ensures, c.finish.ensures) at more)),
     ))
     c.write_all.ensures.bytes

@@ -4,7 +4,6 @@ use Rattle.std.specs.Prelude.{cond, List, [], ◌∷◌, ◌++◌, ℕ, eqb, tak
 use Rattle.notes.specs.declared.note.Note.{Note}
 use Rattle.answer.specs.Lines.{line_feed}
 use Rattle.chordlist.specs.Replies.{line_text}
-use Rattle.chordlist.specs.private.Calls.{Printed}
 
 -- at most so many bytes of a line are kept: one more than it may have, so that a longer one shows
 abbrev pub most_kept : ℕ
@@ -14,17 +13,9 @@ most_kept = 1025
 unfoldable pub held_with : List ℕ → ℕ → List ℕ
 held_with held byte = cond (eqb byte line_feed) [] (take most_kept (held ++ (byte ∷ [])))
 
--- a range that had the first `kept` bytes of a line has, with a byte more, what is kept then: n bytes in front, the others as they were
-abbrev pub Keeps : ℕ → ℕ → List ℕ → ℕ → List ℕ → Type 0
-Keeps byte kept line n left = Printed (held_with (take kept line) byte) line n left
-
 -- what a byte has printed: LF, the answer of the line that it ends
 unfoldable pub said_with : List Note → List ℕ → ℕ → List ℕ
 said_with names held byte = cond (eqb byte line_feed) (line_text names held) []
-
--- a range has what a byte behind the first `kept` of a line has printed: n bytes in front, the others as they were
-abbrev pub Says : List Note → ℕ → ℕ → List ℕ → List ℕ → ℕ → List ℕ → Type 0
-Says names byte kept line room n left = Printed (said_with names (take kept line) byte) room n left
 
 -- what is kept after a piece
 unfoldable pub held_after : List ℕ → List ℕ → List ℕ

@@ -1,98 +1,62 @@
--- `chordlist::codes::read_codes` meets its contract.
-use Rattle.answer.proofs.Kit.{◌≡◌, refl, sym, ap, subst, ◌∙◌, true, List, [], ◌∷◌, ℕ, ◌<◌, ◌≤◌, arith, length, get_or, length-set}
-use Rattle.chordlist.specs.Codes.{holds, codes_in}
-use Rattle.chordlist.proofs.Reading.{is_ended, Reading, start, value_less, is_digit_lem, has_place_lem, digit, next, no_space, no_code, place, read, cut}
+-- `chordlist::codes::read_codes` meets its contract: std's parts of the line are those that `codes_in` speaks of.
+use Rattle.answer.proofs.Kit.{◌≡◌, refl, sym, ap, ◌∙◌, List, [], ◌∷◌, ℕ, ◌<◌, eqb, eqb-true, eqb-false, arith, length, length-append, get_or, Some}
+use Rattle.std.proofs.Common.{rules, tests}
+use Rattle.std.proofs.lemmas.Iterator.Splits.{YieldsList-from_slice_split}
+use Rattle.std.proofs.lemmas.Iterator.Consumers.{YieldsList-turn, YieldsList-end}
+use Rattle.std.specs.Slice.Iter.{split_rest, split_done, split_callee}
+use Rattle.chordlist.specs.private.Calls.{code_in}
+use Rattle.chordlist.specs.Codes.{space, codes_in}
+use Rattle.chordlist.proofs.Reading.{split, codes_split, start, next, room, lost, read}
 use Rattle.chordlist.proofs.codes.read_codes.Goals as goal
-use Rattle.chordlist.proofs.codes.read_codes.Goals.{After-loop-i, Then-byte-digits, then-byte-digits, else-byte-digits+else-byte-ne-SPACE+else-not-is_ended}
+use Rattle.chordlist.proofs.codes.read_codes.Goals.{In-Some}
 
-none : (line : List ℕ) → length line ≡ 0 → codes_in line ≡ holds []
+none : (line : List ℕ) → length line ≡ 0 → codes_in line ≡ Some []
 unfolding codes_in
 none [] e = refl
 none (b ∷ more) e = absurd (let no_way : ⊥ = omega arith in no_way)
 
--- a digit
-module _ (c : Then-byte-digits) where
-  facts : (c.loop-i.value < 1000) × (c.loop-i.digits < 3)
-      × (48 ≤ get_or c.args.line.now c.loop-i.i 0)
-      × (get_or c.args.line.now c.loop-i.i 0 ≤ 57)
-  facts =
-      let h = c.loop-i in
-      let r = h.invariant.reading in
-      let line = c.args.line.now in
-      let d = is_digit_lem line h.codes h.i h.value h.digits h.count (omega arith) r c.if-byte-digits.true in (
-        value_less line h.codes h.i h.value h.digits h.count (omega arith) r,
-        has_place_lem line h.codes h.i h.value h.digits h.count (omega arith) r c.if-byte-digits.true,
-        d.0,
-        d.1,
-      )
+pub returns-then-is_empty : goal.returns-then-is_empty
+returns-then-is_empty c = rw c.new.ensures (sym (none c.args.line.now (eqb-true (length c.args.line.now) 0 (sym c.if-is_empty.ensures))))
 
--- behind the last byte
-ended : (c : After-loop-i) → Reading c.args.line.now (length c.args.line.now) c.loop-i.value c.loop-i.digits c.loop-i.count c.loop-i.codes
-ended c =
-    let h = c.loop-i in
+pub loop-part-init : goal.loop-part-init
+loop-part-init c = rw c.new-codes.ensures (start c.args.line.now)
+
+-- the part that this turn has
+module _ (c : In-Some) where
+  turn : (length c.loop-part.yielded < length (split c.args.line.now)) × (c.in-Some.part.now ≡ get_or (split c.args.line.now) (length c.loop-part.yielded) c.in-Some.part.now)
+  turn =
+      let is = c.into_iter-part-iterator.ensures.into_iter_gives in
+      let told = c.split-part-items.ensures in
+      YieldsList-turn
+      (YieldsList-from_slice_split _ (λ (b : ℕ). eqb b space) c.args.line.now (ap split_rest is ∙ told.rest) (ap split_done is ∙ told.done)
+      (ap split_callee is ∙ told.closure) (λ x r q k. search (rules, tests)))
+      c.loop-part.yielded _ c.loop-part.yielded_by _ _ c.in-Some.part c.in-Some.is c.next.ensures.steps
+
+pub returns-in_err-code : goal.returns-in_err-code
+returns-in_err-code c =
+    let t = turn (goal.at.returns-in_err-code c).In-Some in
     let line = c.args.line.now in
-    let end : h.i ≡ length line = omega arith in
-    subst (λ (n : ℕ). Reading line n h.value h.digits h.count h.codes) end h.invariant.reading
+    let some : length line ≡ 0 → ⊥ = eqb-false _ _ (sym c.if-is_empty.ensures) in
+    rw c.from_residual.ensures
+    (sym (sym (codes_split line some) ∙ lost line c.loop-part.codes c.in-Some.part.now _ t.0 t.1 c.loop-part.invariant (sym c.in_err-code.ensures)))
 
-pub returns-then-line-eq0 : goal.returns-then-line-eq0
-returns-then-line-eq0 c = (omega arith, none _ c.if-line-eq0.true)
-
-pub loop-i-init : goal.loop-i-init
-loop-i-init c = record { inside = omega arith; reading = start _ _ c.if-line-eq0.false; long = refl }
-
-pub overflow_mul-value : goal.overflow_mul-value
-overflow_mul-value c = omega (arith, (facts (goal.at.overflow_mul-value c).Then-byte-digits).0)
-
-pub overflow_sub-value : goal.overflow_sub-value
-overflow_sub-value c = (facts (goal.at.overflow_sub-value c).Then-byte-digits).2
-
-pub overflow_cast-value : goal.overflow_cast-value
-overflow_cast-value c = omega (arith, (facts (goal.at.overflow_cast-value c).Then-byte-digits).3)
-
-pub overflow_add-value : goal.overflow_add-value
-overflow_add-value c = omega (arith, (facts (goal.at.overflow_add-value c).Then-byte-digits).0, (facts (goal.at.overflow_add-value c).Then-byte-digits).3)
-
-pub overflow_add-digits : goal.overflow_add-digits
-overflow_add-digits c = omega (arith, (facts (goal.at.overflow_add-digits c).Then-byte-digits).1)
-
--- a byte that is no digit
-pub returns-then-byte-ne-SPACE : goal.returns-then-byte-ne-SPACE
-returns-then-byte-ne-SPACE c =
-    let h = c.loop-i in
-    no_space c.args.line.now h.codes h.i h.value h.digits h.count (omega arith) h.invariant.reading c.if-byte-digits.false c.if-byte-ne-SPACE.true
-
-pub returns-then-not-is_ended : goal.returns-then-not-is_ended
-returns-then-not-is_ended c =
-    let h = c.loop-i in
-    no_code c.args.line.now h.codes h.i h.value h.digits h.count (omega arith) h.invariant.reading c.if-byte-ne-SPACE.false (sym c.if-not-is_ended.ensures)
-
-pub loop-i-preserved : goal.loop-i-preserved
-loop-i-preserved c =
-    let h = c.loop-i in
+pub loop-part-preserved : goal.loop-part-preserved
+loop-part-preserved c =
+    let t = turn (goal.at.loop-part-preserved c).In-Some in
     let line = c.args.line.now in
-    elim c.if-byte-digits.branch [
-      | then-byte-digits w ↦ record {
-        inside = omega arith;
-        reading = rw (w.codes-is, w.value-is, w.digits-is, w.count-is)
-            (digit line h.codes h.i h.value h.digits h.count (omega arith) h.invariant.reading w.if-byte-digits.true);
-        long = ap length w.codes-is ∙ h.invariant.long;
-      }
-      | else-byte-digits+else-byte-ne-SPACE+else-not-is_ended w ↦ record {
-        inside = omega arith;
-        reading = rw (w.codes-is, w.value-is, w.digits-is, w.count-is)
-            (next line h.codes h.i h.value h.digits h.count (omega arith) h.invariant.reading w.if-byte-ne-SPACE.false
-            (sym w.if-not-is_ended.ensures) (omega (arith, h.invariant.reading.used)));
-        long = ap length w.codes-is ∙ simp length-set h.invariant.long;
-      }
-    ]
-
-pub returns-then-not-is_ended-2 : goal.returns-then-not-is_ended-2
-returns-then-not-is_ended-2 c = cut _ _ _ _ _ (ended (goal.at.returns-then-not-is_ended-2 c).After-loop-i) (sym c.if-not-is_ended-2.ensures)
+    let e : code_in c.in-Some.part.now ≡ Some c.in_ok-code.field-0 = sym c.in_ok-code.ensures in
+    let k = length c.loop-part.yielded in
+    rw (c.push.ensures, room line c.loop-part.codes c.in-Some.part.now k t.0 t.1 c.loop-part.invariant c.in_ok-code.field-0 e c.requires, length-append)
+    (next line c.loop-part.codes c.in-Some.part.now k t.0 t.1 c.loop-part.invariant c.in_ok-code.field-0 e)
 
 pub returns : goal.returns
 returns c =
-    let h = c.loop-i in
-    let r = ended (goal.at.returns c).After-loop-i in
-    let e : is_ended h.value h.digits ≡ true = sym c.if-not-is_ended-2.ensures in
-    let room = place _ _ _ _ _ r e c.requires.0 in
-    (omega (arith, room), read _ _ _ _ _ r e (omega (arith, room)))
+    let line = c.args.line.now in
+    let is = c.into_iter-part-iterator.ensures.into_iter_gives in
+    let told = c.split-part-items.ensures in
+    let end = YieldsList-end
+    (YieldsList-from_slice_split _ (λ (b : ℕ). eqb b space) c.args.line.now (ap split_rest is ∙ told.rest) (ap split_done is ∙ told.done)
+    (ap split_callee is ∙ told.closure) (λ x r q k. search (rules, tests)))
+    c.loop-part.yielded _ c.loop-part.yielded_by _ _ c.in-None.is c.next.ensures.steps in
+    let some : length line ≡ 0 → ⊥ = eqb-false _ _ (sym c.if-is_empty.ensures) in
+    sym (sym (codes_split line some) ∙ read line c.loop-part.codes _ end.1 c.loop-part.invariant)

@@ -1,9 +1,8 @@
 -- `chordlist::input::finish` meets its contract: a last line of no bytes is none.
-use Rattle.answer.proofs.Kit.{◌≡◌, refl, List, [], ◌∷◌, ℕ, arith, length}
+use Rattle.answer.proofs.Kit.{◌≡◌, refl, sym, ap, ◌∙◌, List, [], ◌∷◌, ℕ, arith, eqb-true, eqb-false, length}
 use Rattle.names.specs.Names.{flats}
 use Rattle.chordlist.specs.Replies.{line_text}
 use Rattle.chordlist.specs.private.Pieces.{said_at_end}
-use Rattle.chordlist.proofs.Printing.{no_text}
 use Rattle.chordlist.proofs.input.finish.Goals as goal
 
 no_line_lem : (line : List ℕ) → length line ≡ 0 → said_at_end flats line ≡ []
@@ -16,8 +15,10 @@ unfolding said_at_end
 last_line [] other = absurd (other refl)
 last_line (b ∷ more) other = refl
 
-pub returns-then-line-eq0 : goal.returns-then-line-eq0
-returns-then-line-eq0 c = rw (no_line_lem c.args.line.now c.if-line-eq0.true) (no_text c.args.out.now)
+pub returns-then-not-is_empty : goal.returns-then-not-is_empty
+returns-then-not-is_empty c =
+    c.reply.ensures ∙ sym (last_line c.as_slice-line.result.now (eqb-false _ _ (sym c.if-not-is_empty.ensures))) ∙ ap (said_at_end flats) c.as_slice-line.ensures
 
-pub returns : goal.returns
-returns c = rw (last_line _ c.if-line-eq0.false) c.reply.ensures
+pub returns-else-not-is_empty : goal.returns-else-not-is_empty
+returns-else-not-is_empty c =
+    c.clear.ensures ∙ sym (no_line_lem c.as_slice-line.result.now (eqb-true _ _ (sym c.if-not-is_empty.ensures))) ∙ ap (said_at_end flats) c.as_slice-line.ensures
