@@ -6,6 +6,7 @@ ghost use Rattle.hemotusap.specs.Host.{lead_from, chord_from, HostAnswered};
 
 use crate::outputs::written;
 use host::numbers::bass_from;
+use pool::pool::Pairs;
 use voicings::range::{HIGHEST, LOWEST};
 use voicings::voicing::{Chord, voicing};
 
@@ -36,7 +37,8 @@ pub fn hemotusap_voicing_within(
         highest,
         lead: lead_from(lead),
     };
-    written(voicing(chord, classes, intervals, out))
+    let pairs = Pairs { classes, intervals };
+    written(voicing(chord, pairs, out))
 }
 
 // The same in the range that a host has which names none.

@@ -7,6 +7,7 @@ use answer::refusal::Refusal;
 use inference::normalize::suffix;
 use listing::search::listing;
 use notes::note::Note;
+use pool::pool::Pairs;
 use qualities::quality::quality;
 use spelling::tones::tones;
 use std::io;
@@ -93,8 +94,7 @@ fn print_voicing(
             highest: HIGHEST,
             lead,
         },
-        classes,
-        intervals,
+        Pairs { classes, intervals },
         &mut out,
     );
     print_numbers(rt, output, &out, 1)
