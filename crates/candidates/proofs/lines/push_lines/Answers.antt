@@ -1,8 +1,9 @@
 -- `candidates::lines::push_lines` meets its contract. The loop's invariant: the lines of the classes before this one are written.
-use Rattle.answer.proofs.Kit.{◌≡◌, refl, sym, ap, ap₂, ◌∙◌, List, ◌++◌, flat_map, ℕ, ◌≤◌, arith, length, length-append, get_or, take_all, Option, Some}
+use Rattle.answer.proofs.Kit.{◌≡◌, refl, sym, ap, ap₂, ◌∙◌, true, List, ◌++◌, flat_map, ℕ, ◌<◌, ◌≤◌, arith, length, length-append, get_or, take_all, Option, Some}
 use Rattle.std.specs.Prelude.{slice_get}
 use Rattle.std.specs.Option.{option_map}
 use Rattle.std.proofs.lemmas.Option.{slice_get-get_or}
+use Rattle.intervals.specs.Sets.{has}
 use Rattle.names.specs.Names.{table_of}
 use Rattle.names.proofs.Named.{table_brief}
 use Rattle.candidates.specs.Candidates.{chord, chords, line, lines}
@@ -12,11 +13,16 @@ use Rattle.candidates.proofs.Listed.{line_length, one_more}
 use Rattle.candidates.proofs.lines.push_lines.Goals as goal
 use Rattle.candidates.proofs.lines.push_lines.Goals.{After-from-root, After-or-bass}
 
--- this class, and its candidate
+-- this class is one of the set, and has its candidate
 class_is : (c : After-from-root) → slice_get c.args.classes.now c.loop-class.class-index ≡ Some c.from-root.result
 class_is c =
     slice_get-get_or c.args.classes.now c.loop-class.class-index 0 (omega (arith, ap length c.as_slice-class-items.ensures.all))
     ∙ ap Some (ap (λ (l : List ℕ). get_or l c.loop-class.class-index 0) (sym c.as_slice-class-items.ensures.all) ∙ sym c.from-root.ensures)
+
+of_the_set : (c : After-from-root) → (c.from-root.result < 12) × (has (set_of c.args.classes.now) c.from-root.result ≡ true)
+of_the_set c =
+    rw (c.from-root.ensures, c.as_slice-class-items.ensures.all)
+    (c.as_slice-class-items.ensures.each c.loop-class.class-index (omega (arith, ap length c.as_slice-class-items.ensures.all)))
 
 candidate_is : (c : After-or-bass) → slice_get (chords (set_of c.args.classes.now) c.args.classes.now) c.loop-class.class-index ≡ Some c.chord.result
 candidate_is c =
@@ -30,9 +36,7 @@ unfolding lines flat_map
 loop-class-init c = record { lines = c.requires; bass = refl; few = rw c.requires (omega arith) }
 
 pub chord-requires : goal.chord-requires
-chord-requires c =
-    rw (c.from-root.ensures, c.as_slice-class-items.ensures.all)
-    (c.as_slice-class-items.ensures.each c.loop-class.class-index (omega (arith, ap length c.as_slice-class-items.ensures.all)))
+chord-requires c = of_the_set (goal.at.chord-requires c).After-from-root
 
 pub loop-class-preserved : goal.loop-class-preserved
 loop-class-preserved c =
