@@ -54,7 +54,7 @@ pub fn candidates_in(names: Names, keys: &[u8], out: &mut [u8]) -> Result<usize,
     written.give(out)
 }
 
-// The candidates with the flat names, which are those of the Rust.
+// The candidates with the flat names, which are those of the Rust. It stays a function of its own: `hemotusap_candidates` promises it.
 pub fn candidates(keys: &[u8], out: &mut [u8]) -> Result<usize, Refusal>
     ensures { Answered (text (candidates_of flats keys.now)) out.old result out.new }
 {
