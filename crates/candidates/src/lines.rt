@@ -32,18 +32,16 @@ fn push_line(written: &mut Text<ROOM>, names: Names, candidate: Candidate)
     written.push_byte(b'\n');
 }
 
-// The candidates of the classes of a list, in their order.
+// The candidates of the classes of a list, in their order: the first has no bass, and is the bass of the others.
 fn push_lines(written: &mut Text<ROOM>, names: Names, classes: &Classes)
     requires { written.old ≡ [] }
     ensures { written.new ≡ lines (table_of names) (chords (set_of classes.now) classes.now) }
 {
-    let Some((&head, rest)) = classes.as_slice().split_first() else {
-        return;
-    };
-    let first = u32::from(head);
-    push_line(written, names, classes.chord(None, first));
-    for &class in rest {
-        push_line(written, names, classes.chord(Some(first), u32::from(class)));
+    let mut bass = None;
+    for &class in classes.as_slice() {
+        let root = u32::from(class);
+        push_line(written, names, classes.chord(bass, root));
+        bass = bass.or(Some(root));
     }
 }
 
@@ -56,7 +54,7 @@ pub fn candidates_in(names: Names, keys: &[u8], out: &mut [u8]) -> Result<usize,
     written.give(out)
 }
 
-// The candidates with the flat names, which are those of the Rust.
+// The candidates with the flat names, which are those of the Rust. It stays a function of its own: `hemotusap_candidates` promises it.
 pub fn candidates(keys: &[u8], out: &mut [u8]) -> Result<usize, Refusal>
     ensures { Answered (text (candidates_of flats keys.now)) out.old result out.new }
 {

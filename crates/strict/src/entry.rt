@@ -42,7 +42,7 @@ pub fn candidates_strict_in(names: Names, codes: &[u8], out: &mut [u8]) -> Resul
     candidates_in(names, codes, out)
 }
 
-// The same with the flat names.
+// The same with the flat names. It stays a function of its own: `hemotusap_candidates_strict` promises it.
 pub fn candidates_strict(codes: &[u8], out: &mut [u8]) -> Result<usize, Refusal>
     ensures { Answered (strict_reply flats codes.now) out.old result out.new }
 {
