@@ -9,6 +9,7 @@
 --     voicing_read         so number and place are read from what a call for a voicing gives back, in every room
 --     strict_read          and, strictly, from what the strict entry gives back, in every room, as long as 64 bits hold the formula at each place of the list
 use Rattle.answer.proofs.Kit.{◌≡◌, refl, Bool, true, false, cond, List, ⊎_elim, ℕ, ◌+◌, ◌-◌, ◌*◌, ◌/◌, ◌%◌, ◌^◌, ◌≤◌, ◌<◌, arith, ltb, length, lt-ltb, le-ltb, ℤ, pos, neg_ℤ, Option, Some, None, Result, Ok, Err}
+use Rattle.std.specs.Prelude.{IfSome, IfErr}
 use Rattle.answer.specs.Refusals.{told_of}
 use Rattle.answer.proofs.First.{first_less}
 use Rattle.answer.specs.Replies.{Reply, refuse, text, fits, output_of}
@@ -46,8 +47,7 @@ abbrev pub strictly : Reading
 strictly = record { number = λ size. cond (ltb size (256 * 11)) size 11; Tells = strict_place }
 
 abbrev pub IsBelow : ℕ → Option ℕ → Type 0
-IsBelow n None = Unit {0}
-IsBelow n (Some place) = place < n
+IsBelow n place = IfSome place (λ p. p < n)
 
 pub record IsRead (by : Reading) (number : ℕ) (place : Option ℕ) (given : ℤ) : Type 0 where
   pub size : ℕ
@@ -99,8 +99,7 @@ voicing_places chord classes intervals =
 
 -- an output's refusal is read from the number that a host gets
 abbrev pub RefusalRead : Reading → Result ℕ Refusal → Type 0
-RefusalRead by (Ok n) = Unit {0}
-RefusalRead by (Err why) = IsRead by (told_of why).number (told_of why).place (refusal_number why)
+RefusalRead by output = IfErr output (λ why. IsRead by (told_of why).number (told_of why).place (refusal_number why))
 
 -- of a text only the want of room is refused
 text_read : (by : Reading) (t room : List ℕ) → IsRead by 7 None (refusal_number NoRoom) → RefusalRead by (output_of (text t) room)

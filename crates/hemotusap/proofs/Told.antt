@@ -5,9 +5,13 @@ use Rattle.answer.specs.declared.refusal.Refusal.{Refusal}
 use Rattle.answer.proofs.Kit.{◌≡◌, refl, sym, ap, subst, ◌∙◌, Bool, true, false, cond, List, ℕ, ◌^◌, ◌<◌, arith, leb→le, length, ℤ, Result, Ok, Err}
 use Rattle.answer.specs.Replies.{Reply, refuse, text, fits, output_of, Answered}
 use Rattle.answer.specs.declared.refusal.Refusal.TheVariants.{NoRoom}
+use Rattle.std.specs.Prelude.{IfOk}
 use Rattle.answer.proofs.Tests.{said}
 use Rattle.hemotusap.specs.Host.{output_number, HostAnswered}
-use Rattle.hemotusap.specs.private.Wide.{Fits}
+
+-- an answer's count of bytes is one that a host's 64 bits hold
+abbrev pub Fits : Result ℕ Refusal → Type 0
+Fits output = IfOk output (λ count. count < 2 ^ 63)
 
 module _ (reply : Reply) (room : List ℕ) {left : List ℕ} {output : Result ℕ Refusal} (made : Answered reply room output left) where
   pub output_fits : length room < 2 ^ 63 → Fits output

@@ -63,7 +63,7 @@ pub fn candidate_number(answer: Option<Candidate>) -> i64
     answer.map_or(0, parts_number)
 }
 
-// Which listing a part is of.
+// Which listing a part is of: the C interface names them 0 and 1.
 pub fn names_number(names: Names) -> i64
     ensures { result ≡ pos (names_number names) }
 {

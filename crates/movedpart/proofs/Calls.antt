@@ -6,8 +6,7 @@
 --     any_codes, keys_alone    the entry that takes any codes, and the strict one
 --     listing_written          so what a call writes by the contract of an entry is the listing of its codes
 use Rattle.answer.specs.declared.refusal.Refusal.{Refusal}
-use Rattle.answer.proofs.Kit.{◌≡◌, sym, ap, ap₂, ◌∙◌, Bool, true, false, true≢false, cond, List, ◌++◌, ⊎_elim, ℕ, zero, suc, ◌<◌, ◌^◌, min, arith, length, take, drop, take-append_seam, ℤ, pos, neg_ℤ, Option, Some, None, Result, Ok, Err}
-use lib.IntN.{pos-ne-negsuc}
+use Rattle.answer.proofs.Kit.{◌≡◌, sym, ap, ap₂, ◌∙◌, Bool, true, false, true≢false, cond, List, ◌++◌, ⊎_elim, ℕ, ◌<◌, arith, length, take, drop, take-append_seam, ℤ, pos, Option, Some, None, Result, Ok, Err}
 use Rattle.answer.specs.Refusals.{told_of}
 use Rattle.answer.specs.Replies.{Reply, refuse, text, fits, output_of, room_after}
 use Rattle.answer.specs.declared.refusal.Refusal.TheVariants.{NoRoom}
@@ -43,11 +42,7 @@ abbrev pub library : Telling (Result ℕ Refusal)
 library = record { told = λ output. output; count = Ok; counted = λ output n e. e }
 
 below_zero : (size n : ℕ) → 0 < size → minus size ≡ pos n → ⊥
-below_zero size n some e = by_size (min size (2 ^ 63)) (omega arith) e
-  where
-    by_size : (k : ℕ) → 0 < k → neg_ℤ (pos k) ≡ pos n → ⊥
-    by_size zero h e = omega arith
-    by_size (suc k) h e = pos-ne-negsuc n k (sym e)
+below_zero size n some e = grind arith
 
 pub host_counted : (output : Result ℕ Refusal) (n : ℕ) → output_number output ≡ pos n → output ≡ Ok n
 host_counted (Ok m) n e = cc

@@ -6,7 +6,8 @@
 --     lines_raised, symbols_raised     and what is written of them, in all and of each
 --     octaves           raised by octaves, a list has the same classes
 --     lower_keys        and where it has keys alone, the old one has
-use Rattle.answer.proofs.Kit.{◌≡◌, refl, sym, ap, ap₂, ◌∙◌, Bool, true, false, cond, ◌||◌, List, [], ◌∷◌, ◌++◌, map, flat_map, ℕ, zero, suc, ◌+◌, ◌*◌, ◌%◌, arith, eqb, eq-eqb, ne_eqb, eqb-true, eqb-false, Option, Some, None}
+use Rattle.answer.proofs.Kit.{◌≡◌, refl, sym, ap, ap₂, ◌∙◌, Bool, true, false, cond, ◌||◌, List, [], ◌∷◌, ◌++◌, map, flat_map, ℕ, zero, suc, ◌+◌, ◌*◌, ◌%◌, arith, eqb, Option, Some, None}
+use Rattle.std.proofs.lemmas.Bool.Decides.{nat_tests}
 use mathlib.Core.List.Memᴰ
 use mathlib.Core.List.{map-map}
 use Rattle.intervals.specs.Sets.{has, set_where, is_in}
@@ -29,11 +30,7 @@ news before codes = new_behind (classes before) (classes codes)
 module _ (n : ℕ) where
   -- codes of one class are raised to codes of one class, and others to others
   same_class : (a b : ℕ) → eqb (key_class (a + n)) (key_class (b + n)) ≡ eqb (key_class a) (key_class b)
-  same_class a b = by_case (eqb (key_class a) (key_class b)) refl
-    where
-      by_case : (t : Bool) → eqb (key_class a) (key_class b) ≡ t → eqb (key_class (a + n)) (key_class (b + n)) ≡ t
-      by_case true e = let same = eqb-true (key_class a) (key_class b) e in eq-eqb (key_class (a + n)) (key_class (b + n)) (omega (arith, same))
-      by_case false e = let other = eqb-false (key_class a) (key_class b) e in ne_eqb (key_class (a + n)) (key_class (b + n)) (λ q. other (omega (arith, q)))
+  same_class a b = grind (arith, nat_tests)
 
   heard_raised : (a : ℕ) (codes : List ℕ) → is_in (key_class (a + n)) (classes (raised n codes)) ≡ is_in (key_class a) (classes codes)
   unfolding is_in raised

@@ -3,10 +3,10 @@
 --     here, next      the first LF ends the first line, and the lines behind it are those of the rest
 --     within          it stands in the text
 --     nowhere         a text without one has no line
-use Rattle.answer.proofs.Kit.{◌≡◌, refl, ap, ap₂, ◌∙◌, Bool, true, false, cond, List, [], ◌∷◌, flat_map, ℕ, suc, ◌+◌, ◌<◌, add-zero, arith, eqb, subst, dec_lt, lt-ltb, le-ltb, length, take, drop, length-append, length-take, Option, Some, None}
+use Rattle.answer.proofs.Kit.{◌≡◌, refl, ap, ap₂, cond, List, [], ◌∷◌, flat_map, ℕ, suc, ◌+◌, ◌<◌, add-zero, arith, length, take, drop, length-append, length-take, Option, Some, None}
 use Rattle.answer.specs.Lines.{line_feed, begun_with, lines_of, numbered_in, line_at, ended, line_start}
 use Rattle.signatures.specs.Part.{found_at}
-use Rattle.std.specs.Prelude.{position, ◌==◌, nat_lt, not}
+use Rattle.std.specs.Prelude.{position, ◌==◌, nat_lt}
 use Rattle.std.specs.List.{position_or_len}
 
 abbrev pub found_behind : ℕ → List ℕ → ℕ → Option (ℕ × ℕ)
@@ -16,29 +16,17 @@ found_behind start text n = found_at (start + line_start text n) (line_at text n
 abbrev first : List ℕ → ℕ
 first text = position_or_len (λ b. b == line_feed) text
 
-module _ (b : ℕ) (more : List ℕ) where
-  abbrev k : ℕ
-  k = first more
-
-  by_feed : (is : Bool) → Dec (k < length more) → lines_of more ≡ cond (nat_lt k (length more)) (take k more ∷ lines_of (drop (k + 1) more)) []
-      → cond is ([] ∷ lines_of more) (begun_with b (lines_of more))
-      ≡ cond (nat_lt (cond (not is) (1 + k) 0) (suc (length more)))
-      (take (cond (not is) (1 + k) 0) (b ∷ more) ∷ lines_of (drop (cond (not is) (1 + k) 0 + 1) (b ∷ more))) []
-  unfolding begun_with
-  by_feed true d e = rw (lt-ltb 0 (suc (length more)) (omega arith)) refl
-  by_feed false (yes less) e =
-      let one : suc k ≡ 1 + k = omega arith in
-      let two : suc (k + 1) ≡ 1 + k + 1 = omega arith in
-      rw (lt-ltb (1 + k) (suc (length more)) (omega arith)) (
-      ap (begun_with b) (rw (lt-ltb k (length more) less) at e)
-      ∙ ap₂ (λ (x y : ℕ). take x (b ∷ more) ∷ lines_of (drop y (b ∷ more))) one two)
-  by_feed false (no over) e =
-      rw (le-ltb (1 + k) (suc (length more)) (omega arith)) (ap (begun_with b) (rw (le-ltb k (length more) (omega arith)) at e))
-
 first_line : (text : List ℕ) → lines_of text ≡ cond (nat_lt (first text) (length text)) (take (first text) text ∷ lines_of (drop (first text + 1) text)) []
-unfolding lines_of
+unfolding lines_of begun_with
 first_line [] = refl
-first_line (b ∷ more) = by_feed b more (eqb b line_feed) (dec_lt (first more) (length more)) (first_line more)
+first_line (b ∷ more) =
+    let k = first more in
+    let one : suc k ≡ 1 + k = omega arith in
+    let two : suc (k + 1) ≡ 1 + k + 1 = omega arith in
+    let rest = first_line more in
+    let longer = ap (begun_with b) rest in
+    let taken = ap₂ (λ (x y : ℕ). take x (b ∷ more) ∷ lines_of (drop y (b ∷ more))) one two in
+    grind arith
 
 -- a text's lines, by where its first LF stands
 abbrev LinesBy : List ℕ → Option ℕ → Type 0
@@ -46,12 +34,8 @@ LinesBy text None = lines_of text ≡ []
 LinesBy text (Some k) = (k < length text) × (lines_of text ≡ take k text ∷ lines_of (drop (k + 1) text))
 
 lines_by : (text : List ℕ) (at : Option ℕ) → position (λ b. b == line_feed) text ≡ at → LinesBy text at
-lines_by text at e = subst (LinesBy text) e (by_first (dec_lt (first text) (length text)) (first_line text))
-  where
-    by_first : Dec (first text < length text) → lines_of text ≡ cond (nat_lt (first text) (length text)) (take (first text) text ∷ lines_of (drop (first text + 1) text)) []
-        → LinesBy text (cond (nat_lt (first text) (length text)) (Some (first text)) None)
-    by_first (yes less) e = rw (lt-ltb (first text) (length text) less) (less, rw (lt-ltb (first text) (length text) less) at e)
-    by_first (no over) e = rw (le-ltb (first text) (length text) (omega arith)) (rw (le-ltb (first text) (length text) (omega arith)) at e)
+lines_by text None e = let lines = first_line text in grind arith
+lines_by text (Some k) e = let lines = first_line text in grind arith
 
 module _ (start : ℕ) (text : List ℕ) where
   pub nowhere : (n : ℕ) → position (λ b. b == line_feed) text ≡ None → found_behind start text n ≡ None

@@ -1,2 +1,0 @@
--- What no public contract cites: a reader need not believe any of it.
-pub mod Wide
