@@ -1,6 +1,7 @@
 -- At most sixteen rooted sets share a suffix. The suffixes of all 2,048 are read once, as numbers, and those are parted round
 -- the first of them, as a quicksort parts them: one computed test, and the law that it counts.
 --     sixteen        a text has at most so many sets
+use Rattle.std.specs.Prelude.{filter}
 use Rattle.answer.proofs.Kit.{◌≡◌, refl, sym, ap, ◌∙◌, Bool, true, false, cond, ◌&&◌, List, [], ◌∷◌, ℕ, zero, suc, ◌+◌, ◌≤◌, arith, T, eqb, ltb, ltb→lt, length, eq-eqb, ne_eqb, eqb-true, eqb-false, lt-ltb, ltb-false}
 use Rattle.answer.specs.Words.{same, low}
 use Rattle.answer.proofs.Tests.{left, right, said, same→eq}
@@ -13,16 +14,11 @@ unfoldable count : ℕ → List ℕ → ℕ
 count v [] = 0
 count v (x ∷ more) = cond (eqb v x) 1 0 + count v more
 
--- those of a list that pass a test
-unfoldable those : (ℕ → Bool) → List ℕ → List ℕ
-those p [] = []
-those p (x ∷ more) = cond (p x) (x ∷ those p more) (those p more)
-
 abbrev lower : ℕ → List ℕ → List ℕ
-lower k l = those (λ x. ltb x k) l
+lower k l = filter (λ x. ltb x k) l
 
 abbrev higher : ℕ → List ℕ → List ℕ
-higher k l = those (λ x. ltb k x) l
+higher k l = filter (λ x. ltb k x) l
 
 -- no number stands in a list more often than `most_shared` says, told by at most n partings in a row
 unfoldable none_more : ℕ → List ℕ → Bool
@@ -37,16 +33,16 @@ suffixes zero s = []
 suffixes (suc n) s = low (suffix_of s) ∷ suffixes n (s + 2)
 
 no_suffix_more : T (none_more 40 (suffixes 2048 1))
-unfolding suffix_computed count those none_more suffixes low
+unfolding suffix_computed count none_more suffixes low
 no_suffix_more = tt
 
 -- a number that passes the test stands among those as often
-count_those : (p : ℕ → Bool) (v : ℕ) → p v ≡ true → (l : List ℕ) → count v l ≤ count v (those p l)
-unfolding count those
-count_those p v is [] = omega arith
-count_those p v is (x ∷ more) = by_case (p x) refl (count_those p v is more)
+count_kept : (p : ℕ → Bool) (v : ℕ) → p v ≡ true → (l : List ℕ) → count v l ≤ count v (filter p l)
+unfolding count
+count_kept p v is [] = omega arith
+count_kept p v is (x ∷ more) = by_case (p x) refl (count_kept p v is more)
   where
-    by_case : (b : Bool) → p x ≡ b → count v more ≤ count v (those p more) → cond (eqb v x) 1 0 + count v more ≤ count v (cond b (x ∷ those p more) (those p more))
+    by_case : (b : Bool) → p x ≡ b → count v more ≤ count v (filter p more) → cond (eqb v x) 1 0 + count v more ≤ count v (cond b (x ∷ filter p more) (filter p more))
     by_case true e rest = omega arith
     by_case false e rest = rw (ne_eqb v x (λ same. absurd (said false (sym e ∙ ap p (sym same) ∙ is)))) (omega arith)
 
@@ -69,8 +65,8 @@ none_more_lem (suc n) (x ∷ more) t v = by_case (eqb v x) refl (ltb v x) refl (
     by_case : (b : Bool) → eqb v x ≡ b → (c : Bool) → ltb v x ≡ c → count v (lower x more) ≤ most_shared → count v (higher x more) ≤ most_shared
         → cond b 1 0 + count v more ≤ most_shared
     by_case true e c f lo hi = rw (eqb-true v x e) (omega (arith, ltb→lt (count x more) most_shared (left (ltb (count x more) most_shared) (none_more n (lower x more)) here)))
-    by_case false e true f lo hi = omega (arith, count_those (λ y. ltb y x) v f more)
-    by_case false e false f lo hi = omega (arith, count_those (λ y. ltb x y) v (lt-ltb x v (omega (arith, ltb-false v x f, eqb-false v x e))) more)
+    by_case false e true f lo hi = omega (arith, count_kept (λ y. ltb y x) v f more)
+    by_case false e false f lo hi = omega (arith, count_kept (λ y. ltb x y) v (lt-ltb x v (omega (arith, ltb-false v x f, eqb-false v x e))) more)
 
 -- the sets of a text are no more than the suffixes that are its number
 found_counted : (t : List ℕ) (n s : ℕ) → length (matching t n s) ≤ count (low t) (suffixes n s)
