@@ -103,6 +103,7 @@ fn push_parentheses<const N: usize>(text: &mut Text<N>, descriptor: Descriptor)
 }
 
 // Adds each interval of a set as a part of the parentheses, and answers whether the next part is the first.
+// A struct of `first` and `prefix` is no plainer: `push_parentheses` sets each by itself.
 fn push_parts<const N: usize>(
     text: &mut Text<N>,
     mut first: bool,

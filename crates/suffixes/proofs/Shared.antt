@@ -9,7 +9,7 @@ use Rattle.rules.specs.Suffix.{suffix_of}
 use Rattle.rules.proofs.Computed.{suffix_computed}
 use Rattle.suffixes.specs.Sets.{matching, sets_of, most_shared}
 
--- how often a number stands in a list
+-- how often a number stands in a list; not the library's `count_by`, whose steps are a lemma and no clauses
 unfoldable count : ℕ → List ℕ → ℕ
 count v [] = 0
 count v (x ∷ more) = cond (eqb v x) 1 0 + count v more
