@@ -21,15 +21,15 @@ use Rattle.descriptors.specs.private.Split.{missed_by, Splits}
 use Rattle.descriptors.specs.Descriptors.{descriptor_of}
 
 pub split : (q : ChordQuality) (row : Kind) → row ≡ kind_of q → (a e u stack own : ℕ) (m : Option Interval) (found nine : ℕ)
-    → u ≡ unstacked_from (bit_or a e) row.3 stack → stack ≡ stack_bits q → own ≡ own_bits q
-    → m ≡ modifier_from row.5 e u → found ≡ adds_from row.5 e u own → nine ≡ nine_from row.4 found → Splits q a e m found nine
+    → u ≡ unstacked_from (bit_or a e) row.2 stack → stack ≡ stack_bits q → own ≡ own_bits q
+    → m ≡ modifier_from row.4 e u → found ≡ adds_from row.4 e u own → nine ≡ nine_from row.3 found → Splits q a e m found nine
 split q row t a e u stack own m found nine hu hs ho hm hf hn =
-    let missed : u ≡ missed_by q a e = hu ∙ ap₂ (unstacked_from (bit_or a e)) (ap (λ (k : Kind). k.3) t) hs in
-    let diminished = ap (λ (k : Kind). k.5) t in
+    let missed : u ≡ missed_by q a e = hu ∙ ap₂ (unstacked_from (bit_or a e)) (ap (λ (k : Kind). k.2) t) hs in
+    let diminished = ap (λ (k : Kind). k.4) t in
     record {
       stacked = hm ∙ ap₂ (λ (d : Bool) (x : ℕ). modifier_from d e x) diminished missed;
-      added = hf ∙ ap (λ (x : ℕ). adds_from row.5 e u x) ho ∙ ap₂ (λ (d : Bool) (x : ℕ). adds_from d e x (own_bits q)) diminished missed;
-      behind = hn ∙ ap (λ (k : Kind). nine_from k.4 found) t;
+      added = hf ∙ ap (λ (x : ℕ). adds_from row.4 e u x) ho ∙ ap₂ (λ (d : Bool) (x : ℕ). adds_from d e x (own_bits q)) diminished missed;
+      behind = hn ∙ ap (λ (k : Kind). nine_from k.3 found) t;
     }
 
 module _ (s : ℕ) (is : is_rooted s ≡ true) where

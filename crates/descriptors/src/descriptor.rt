@@ -120,12 +120,12 @@ fn split_extensions(quality: ChordQuality, alterations: u32, extensions: u32) ->
     ensures { Splits quality alterations extensions result.modifier result.adds result.nine }
 {
     let kind = kind_of(quality);
-    let missed = unstacked(alterations | extensions, kind.3, quality.extension_stack());
-    let added = adds(kind.5, extensions, missed, quality.self_mask());
+    let missed = unstacked(alterations | extensions, kind.2, quality.extension_stack());
+    let added = adds(kind.4, extensions, missed, quality.self_mask());
     Split {
-        modifier: modifier(kind.5, extensions, missed),
+        modifier: modifier(kind.4, extensions, missed),
         adds: added,
-        nine: nine_behind_six(kind.4, added),
+        nine: nine_behind_six(kind.3, added),
     }
 }
 

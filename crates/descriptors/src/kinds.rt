@@ -4,10 +4,10 @@ ghost use Rattle.descriptors.specs.Kinds.{kind_of};
 
 use qualities::quality::ChordQuality;
 
-// A quality's word up to where its modifier stands; whether it shows one, and its word without one; the degree that it has of its
-// own; whether it writes a `6`; whether every extension is an add.
+// A quality's word up to where its modifier stands; the word that stands there without one, if it shows one; the degree that it has of
+// its own; whether it writes a `6`; whether every extension is an add.
 #[derive(Clone, Copy)]
-pub struct Kind(pub u64, pub bool, pub u64, pub u32, pub bool, pub bool);
+pub struct Kind(pub u64, pub Option<u64>, pub u32, pub bool, pub bool);
 
 const NONE: u64 = 0;
 
@@ -32,22 +32,23 @@ const DIM7: u64 = 0x04000000376d6964; // dim7
 // A degree's bit.
 const D7: u32 = 1 << 7;
 
+#[tactic(auto, unfolding(answer::specs::Words::bytes, answer::specs::Words::low, answer::specs::Words::packed, intervals::specs::Sets::is_in))]
 pub fn kind_of(quality: ChordQuality) -> Kind
     ensures { result ≡ kind_of quality }
 {
     match quality {
-        ChordQuality::Maj => Kind(NONE, false, NONE, 0, false, false),
-        ChordQuality::Maj6 => Kind(SIX, true, NONE, 0, true, false),
-        ChordQuality::Maj7 => Kind(MA, true, SEVEN, D7, false, false),
-        ChordQuality::Dominant7 => Kind(NONE, true, SEVEN, D7, false, false),
-        ChordQuality::Mi => Kind(MI, false, NONE, 0, false, false),
-        ChordQuality::Mi6 => Kind(MI6, false, NONE, 0, true, false),
-        ChordQuality::Mi7 => Kind(MI, true, SEVEN, D7, false, false),
-        ChordQuality::MiMaj7 => Kind(MIMA, true, SEVEN, D7, false, false),
-        ChordQuality::Augmented => Kind(PLUS, true, NONE, 0, false, false),
-        ChordQuality::Diminished => Kind(DIM, false, NONE, 0, false, true),
-        ChordQuality::Diminished7 => Kind(DIM7, false, NONE, 0, false, true),
-        ChordQuality::Power => Kind(NONE, false, NONE, 0, false, false),
-        ChordQuality::Bass => Kind(NONE, false, NONE, 0, false, false),
+        ChordQuality::Maj => Kind(NONE, None, 0, false, false),
+        ChordQuality::Maj6 => Kind(SIX, Some(NONE), 0, true, false),
+        ChordQuality::Maj7 => Kind(MA, Some(SEVEN), D7, false, false),
+        ChordQuality::Dominant7 => Kind(NONE, Some(SEVEN), D7, false, false),
+        ChordQuality::Mi => Kind(MI, None, 0, false, false),
+        ChordQuality::Mi6 => Kind(MI6, None, 0, true, false),
+        ChordQuality::Mi7 => Kind(MI, Some(SEVEN), D7, false, false),
+        ChordQuality::MiMaj7 => Kind(MIMA, Some(SEVEN), D7, false, false),
+        ChordQuality::Augmented => Kind(PLUS, Some(NONE), 0, false, false),
+        ChordQuality::Diminished => Kind(DIM, None, 0, false, true),
+        ChordQuality::Diminished7 => Kind(DIM7, None, 0, false, true),
+        ChordQuality::Power => Kind(NONE, None, 0, false, false),
+        ChordQuality::Bass => Kind(NONE, None, 0, false, false),
     }
 }

@@ -1,8 +1,9 @@
 -- The texts of a suffix are short.
-use Rattle.answer.proofs.Kit.{◌≡◌, refl, Bool, true, false, cond, List, [], ◌∷◌, ℕ, T, Option, Some, None}
+use Rattle.answer.proofs.Kit.{◌≡◌, refl, Bool, true, false, true≢false, cond, List, [], ◌∷◌, ℕ, T, Option, Some, None}
 use Rattle.answer.specs.Words.{bytes, low, packed}
 use Rattle.answer.proofs.Digits.{are_bytes, is_short}
 use Rattle.answer.proofs.Tests.{all}
+use Rattle.intervals.specs.Sets.{is_in}
 use Rattle.intervals.specs.Intervals.{intervals, nth, numbered, notation_of}
 use Rattle.intervals.proofs.Rows.{at_interval}
 use Rattle.intervals.specs.declared.interval.Interval.{Interval}
@@ -61,16 +62,41 @@ pub sus_word : IsWord (bytes "sus") 0x0300000000737573
 unfolding bytes are_bytes is_short low packed
 sus_word = record { short = tt; is = refl }
 
+-- a quality that shows no modifier has no word without one
+hidden : (q : ChordQuality) → shows_modifier q ≡ false → unmodified q ≡ []
+unfolding is_in
+hidden Maj e = refl
+hidden Mi e = refl
+hidden Mi6 e = refl
+hidden Diminished e = refl
+hidden Diminished7 e = refl
+hidden Power e = refl
+hidden Bass e = refl
+hidden Maj6 e = absurd (true≢false e)
+hidden Maj7 e = absurd (true≢false e)
+hidden Dominant7 e = absurd (true≢false e)
+hidden Mi7 e = absurd (true≢false e)
+hidden MiMaj7 e = absurd (true≢false e)
+hidden Augmented e = absurd (true≢false e)
+
 -- a modifier's word by the row of its quality
-pub modifier_word_lem : (q : ChordQuality) (shows : Bool) (without : ℕ) (m : Option Interval) → shows ≡ shows_modifier q → without ≡ packed (unmodified q)
-    → IsWord (modified q m) (modifier_word shows without m)
+pub modifier_word_lem : (q : ChordQuality) (word : Option ℕ) (m : Option Interval) → word ≡ cond (shows_modifier q) (Some (packed (unmodified q))) None
+    → IsWord (modified q m) (modifier_word word m)
 unfolding bytes are_bytes is_short
-modifier_word_lem q shows without (Some i) e f = rw e (either_word (shows_modifier q) record { short = notation_short i; is = refl } no_word)
-modifier_word_lem q shows without None e f = record { short = either_short (is_one_of q (Maj7 ∷ Dominant7 ∷ Mi7 ∷ MiMaj7 ∷ [])); is = f }
+modifier_word_lem q word m e = rw e (by_shows (shows_modifier q) refl m)
   where
-    either_short : (b : Bool) → T (is_short (cond b (bytes "7") []))
-    either_short true = tt
-    either_short false = tt
+    short : T (is_short (unmodified q))
+    short = either_short (is_one_of q (Maj7 ∷ Dominant7 ∷ Mi7 ∷ MiMaj7 ∷ []))
+      where
+        either_short : (b : Bool) → T (is_short (cond b (bytes "7") []))
+        either_short true = tt
+        either_short false = tt
+
+    by_shows : (b : Bool) → shows_modifier q ≡ b → (m : Option Interval) → IsWord (modified q m) (modifier_word (cond b (Some (packed (unmodified q))) None) m)
+    by_shows true h (Some i) = rw h record { short = notation_short i; is = refl }
+    by_shows true h None = record { short = short; is = refl }
+    by_shows false h (Some i) = rw h no_word
+    by_shows false h None = rw (hidden q h) no_word
 
 pub before_short : (first : Bool) (prefix : Prefix) → T (is_short (before_part first prefix))
 unfolding bytes are_bytes is_short

@@ -79,7 +79,7 @@ fn push_heading<const N: usize>(text: &mut Text<N>, descriptor: Descriptor)
     if descriptor.nine != 0 {
         text.push(NINE);
     }
-    text.push(modifier_word(kind.1, kind.2, descriptor.modifier));
+    text.push(modifier_word(kind.1, descriptor.modifier));
     if descriptor.sus {
         text.push(SUS);
     }

@@ -44,16 +44,13 @@ pub(crate) fn before_part(first: bool, prefix: Prefix) -> u64
     }
 }
 
-// A modifier where a quality shows one, or its word without one.
-pub(crate) fn modifier_word(shows: bool, without: u64, modifier: Option<Interval>) -> u64
-    ensures { result ≡ modifier_word shows without modifier }
+// A modifier, or the word without one, where a quality shows one.
+pub(crate) fn modifier_word(unmodified: Option<u64>, modifier: Option<Interval>) -> u64
+    ensures { result ≡ modifier_word unmodified modifier }
 {
-    modifier.map_or(
-        without,
-        |interval| if shows {
-            interval.to_chord_notation()
-        } else {
-            NOTHING
-        },
-    )
+    match (unmodified, modifier) {
+        (None, _) => NOTHING,
+        (Some(word), None) => word,
+        (Some(_), Some(interval)) => interval.to_chord_notation(),
+    }
 }

@@ -11,9 +11,10 @@ use Rattle.descriptors.specs.declared.descriptor.Descriptor.{Descriptor}
 use Rattle.inference.specs.private.Prefixes.{prefix_text, add_where}
 
 -- a modifier where a quality shows one, or its word without one
-abbrev pub modifier_word : Bool → ℕ → Option Interval → ℕ
-modifier_word shows without (Some i) = cond shows (packed (notation_of i)) 0
-modifier_word shows without None = without
+abbrev pub modifier_word : Option ℕ → Option Interval → ℕ
+modifier_word None m = 0
+modifier_word (Some word) None = word
+modifier_word (Some word) (Some i) = packed (notation_of i)
 
 -- what stands before the parentheses
 abbrev pub head_of : Descriptor → List ℕ

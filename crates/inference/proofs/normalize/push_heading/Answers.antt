@@ -23,7 +23,7 @@ modified_added : (g : Over) (c : After-push-2 g) →
 modified_added g c =
     let d = c.args.descriptor in
     let row = c.kind_of-kind.ensures in
-    let is-modifier = modifier_word_lem d.quality _ _ d.modifier (ap (λ (k : Kind). k.1) row) (ap (λ (k : Kind). k.2) row) in
+    let is-modifier = modifier_word_lem d.quality _ d.modifier (ap (λ (k : Kind). k.1) row) in
     then_adds _ _ _ _ _ _
     (then_adds _ _ _ _ _ _ (word_added _ _ _ _ _ record { short = wording_short d.quality; is = ap (λ (k : Kind). k.0) row } c.push.ensures) (nine_added g c))
     (word_added _ _ _ _ _ record { short = is-modifier.short; is = c.modifier_word.ensures ∙ is-modifier.is } c.push-2.ensures)
