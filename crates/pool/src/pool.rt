@@ -98,7 +98,7 @@ impl Pool {
     }
 }
 
-// The tones of the pairs that are used, in order of base; of more than the most, the first.
+// The tones of the pairs that are used, in order of base; of more than the most, the first. By index: three runs go side by side.
 pub fn ordered_pool(pairs: Pairs) -> Pool
     ensures { result ≡ sorted (take 16 (tones_of pairs.entry.classes.now pairs.entry.intervals.now)) }
 {

@@ -49,6 +49,7 @@ struct Present {
 }
 
 impl Present {
+    // Both in one pass over the pool.
     fn of(tones: &[Tone]) -> Present
         ensures sixth { result.sixth ≡ holds_any sixths tones.now }
         ensures seventh { result.seventh ≡ holds_any sevenths tones.now }
