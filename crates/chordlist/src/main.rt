@@ -32,7 +32,10 @@ fn feed<W: Write>(piece: &[u8], line: &mut Line, output: &mut W) -> io::Result<(
     let mut answer = Answer::new();
     for &byte in piece {
         take_in(byte, line, &mut answer);
-        output.write_all(answer.as_slice())?;
+        let said = answer.as_slice();
+        if !said.is_empty() {
+            output.write_all(said)?;
+        }
     }
     Ok(())
 }

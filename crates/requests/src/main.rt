@@ -215,7 +215,8 @@ fn reply_all(rt: &impl Print, input: &[u8]) -> io::Result<()> {
     Ok(())
 }
 
-// Reads until a range is full or the input ends, and gives how many bytes stand at the range's front.
+// Reads until a range is full or the input ends, and gives how many bytes stand at the range's front. A loop of its own, since
+// std's `read_exact` does not say how many bytes a shorter input had, and `read_to_end` needs heap.
 fn read_full(input: &mut impl Read, range: &mut [u8]) -> io::Result<usize>
     ensures { ReadsAtMost result range.new }
 {

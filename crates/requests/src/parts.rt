@@ -4,6 +4,9 @@ use answer::text::Text;
 // The most bytes that a range has.
 pub(crate) const RANGE: usize = 1200;
 
+// The size of the lowest number of 32 bits.
+const LOWEST: u32 = 1 << 31;
+
 // What is left of a line.
 #[derive(Clone, Copy)]
 pub(crate) struct Parts<'a> {
@@ -33,8 +36,8 @@ impl<'a> Parts<'a> {
     // A number that may be below 0, as far as it fits.
     pub fn signed(&mut self) -> i32 {
         match self.next() {
-            [b'-', size @ ..] => i32::try_from(number(size)).map_or(i32::MIN, |size| -size),
-            size => (number(size) % LOWEST) as i32,
+            [b'-', digits @ ..] => i32::try_from(number(digits)).map_or(i32::MIN, |size| -size),
+            digits => (number(digits) % LOWEST) as i32,
         }
     }
 
@@ -42,12 +45,12 @@ impl<'a> Parts<'a> {
     pub fn bytes(&mut self) -> Text<RANGE> {
         let mut list = Text::new();
         for item in self.next().split(|byte| *byte == b',') {
-            let digits = item.iter().take_while(|byte| byte.is_ascii_digit()).count();
-            if digits == 0 {
+            let digits = digits(item);
+            if digits.is_empty() {
                 break;
             }
-            list.push_byte((number(item) % 256) as u8);
-            if digits < item.len() {
+            list.push_byte((number(digits) % 256) as u8);
+            if digits.len() < item.len() {
                 break;
             }
         }
@@ -55,12 +58,17 @@ impl<'a> Parts<'a> {
     }
 }
 
-// The size of the lowest number of 32 bits.
-const LOWEST: u32 = 1 << 31;
+// The digits that come first.
+fn digits(part: &[u8]) -> &[u8] {
+    match part.iter().position(|byte| !byte.is_ascii_digit()) {
+        Some(end) => &part[..end],
+        None => part,
+    }
+}
 
-// The number whose digits come first, as far as it fits.
+// The number whose digits come first, as far as it fits. A digit's lower half is what it is worth.
 fn number(part: &[u8]) -> u32 {
-    let value = part.iter().take_while(|byte| byte.is_ascii_digit()).fold(
+    let value = digits(part).iter().fold(
         0u64,
         |value, byte| value % 1_000_000_000 * 10 + u64::from(*byte % 16),
     );

@@ -27,10 +27,10 @@ loop-preserved g c =
       read = i.read ++ piece;
       turns = omega (arith, length-append i.read piece);
       left = Consumes-trans _ _ _ _ _ i.left c.in_ok-count.ensures.bytes.0;
-      held = held_more [] i.read h.line piece _ i.held c.in_ok-feed.ensures.held;
+      held = held_more [] i.read h.line piece c.feed.new.line i.held c.in_ok-feed.ensures.held;
       said = subst (Appends (g.W.Write.contents c.args.output.now) (g.W.Write.contents c.feed.new.output))
           (said_more flats i.read h.line piece i.held)
-          (Appends-trans _ _ _ _ _ i.said c.in_ok-feed.ensures.said);
+          (Appends-trans _ _ _ (said_by flats [] i.read) (said_by flats h.line piece) i.said c.in_ok-feed.ensures.said);
     }
 
 -- a read of none leaves what was read
