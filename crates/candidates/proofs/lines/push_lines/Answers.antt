@@ -6,7 +6,7 @@ use Rattle.std.proofs.lemmas.Option.{slice_get-get_or}
 use Rattle.intervals.specs.Sets.{has}
 use Rattle.names.specs.Names.{table_of}
 use Rattle.names.proofs.Named.{table_brief}
-use Rattle.candidates.specs.Candidates.{chord, chords, line, lines}
+use Rattle.candidates.specs.Candidates.{chord, chords, numbered_in, line, lines}
 use Rattle.candidates.specs.private.Classes.{set_of}
 use Rattle.candidates.proofs.Chords.{as_many, numbered_chord, next_bass}
 use Rattle.candidates.proofs.Listed.{line_length, one_more}
@@ -25,6 +25,7 @@ of_the_set c =
     (c.as_slice-class-items.ensures.each c.loop-class.class-index (omega (arith, ap length c.as_slice-class-items.ensures.all)))
 
 candidate_is : (c : After-or-bass) → slice_get (chords (set_of c.args.classes.now) c.args.classes.now) c.loop-class.class-index ≡ Some c.chord.result
+unfolding numbered_in
 candidate_is c =
     let classes = c.args.classes.now in
     numbered_chord (set_of classes) classes c.loop-class.class-index
