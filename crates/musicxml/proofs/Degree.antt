@@ -4,7 +4,7 @@
 --     sounding, missed  a subtract, by whether the class sounds
 --     subtracts         the tones of a kind that don't sound: its third and its fifth, where they don't, and no other
 use Rattle.answer.proofs.Kit.{◌≡◌, refl, sym, ap, ap₂, ◌∙◌, Bool, true, false, cond, not, List, [], ◌∷◌, ◌++◌, map, map-append, append-nil, append_assoc, ℕ, ◌%◌, ◌/◌, ◌^◌, arith, eq-eqb}
-use Rattle.answer.specs.Words.{bytes, text_of}
+use Rattle.answer.specs.Words.{bytes}
 use Rattle.answer.proofs.Tests.{left, right, said, is_true}
 use Rattle.intervals.specs.Sets.{is_set, has, has_all, is_rooted}
 use Rattle.intervals.specs.Intervals.{class_of, to_degree_of}
@@ -19,10 +19,7 @@ use Rattle.harmonies.proofs.Texts.{written_then, degree_text_lem}
 use Rattle.musicxml.specs.declared.degrees.Row.{Row}
 use Rattle.musicxml.specs.private.Degrees.{degree_text, IsRow, subtract_where}
 
-abbrev add : ℕ → ℕ → List ℕ
-add value alter = degree_text (text_of value) (text_of alter) (bytes "add</degree-type></degree>")
-
-pub row_text : (i : Interval) (row : Row) → IsRow (add_of i) row → add row.0 row.1 ≡ written (degree (add_of i))
+pub row_text : (i : Interval) (row : Row) → IsRow (add_of i) row → degree_text row.0.now row.1.now (bytes "add</degree-type></degree>") ≡ written (degree (add_of i))
 unfolding degree_text bytes
 row_text i row told = rw (told.value, told.alter) (sym (degree_text_lem (add_of i)))
 

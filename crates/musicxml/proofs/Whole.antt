@@ -14,7 +14,6 @@ use Rattle.harmonies.specs.Harmony.{bass_of, degrees, harmony_of}
 use Rattle.harmonies.proofs.Lossless.{kind_sounds}
 use Rattle.harmonies.proofs.Texts.{harmony_text}
 use Rattle.musicxml.specs.declared.kinds.Kind as kinds
-use Rattle.musicxml.specs.private.Texts.{words_text}
 use Rattle.musicxml.specs.private.Kinds.{IsKind}
 use Rattle.musicxml.specs.private.Degrees.{subtract_where}
 use Rattle.musicxml.proofs.Degree.{degrees_row, subtracts}
@@ -24,7 +23,7 @@ use Rattle.musicxml.proofs.Pitched.{root_text, root_text_lem}
 -- of a kind's row, the intervals of a set, and the numbers handed in
 abbrev pub whole_text : kinds.Kind → ℕ → ℕ → Option ℕ → ℕ → List ℕ
 whole_text row found root b s =
-    root_text root ++ words_text row.name.now ++ bytes "</kind>" ++ written (bass_of flats b) ++ written (degrees (map add_of (intervals_in (bit_and row.outside found))))
+    root_text root ++ row.name.now ++ bytes "</kind>" ++ written (bass_of flats b) ++ written (degrees (map add_of (intervals_in (bit_and row.outside found))))
     ++ subtract_where s row.third (bytes "3") ++ subtract_where s row.fifth (bytes "5") ++ bytes "</harmony>"
 
 module _ (s : ℕ) (is : is_rooted s ≡ true) (row : kinds.Kind) (found : ℕ) (told : IsKind (suffix_quality s) row) (all : found ≡ set_of (intervals_of s)) where

@@ -7,11 +7,8 @@ ghost use Rattle.musicxml.specs.private.Pitches.{pitch_text};
 ghost use Rattle.musicxml.specs.private.Texts.{Adds};
 
 use crate::degrees::{push_adds, push_subtract};
+use crate::element::Element;
 use crate::kinds::Kind;
-use crate::texts::{
-    BASS_ALTER, BASS_END, BASS_OPEN, BASS_STEP, Element, HARMONY_END, HARMONY_ROOT, KIND_END,
-    ROOT_ALTER, ROOT_KIND, ROOT_STEP, push_words,
-};
 use answer::refusal::Refusal;
 use descriptors::classes::intervals;
 use descriptors::showing::shown;
@@ -22,29 +19,25 @@ use names::table::{Names, class_name};
 // What stands before a class's step, before its alter, as its alter, and behind it.
 #[derive(Clone, Copy)]
 struct Around {
-    before: &'static [u64],
-    step: &'static [u64],
-    alter: &'static [u64],
-    end: &'static [u64],
+    before: &'static [u8],
+    step: &'static [u8],
+    alter: &'static [u8],
+    end: &'static [u8],
 }
 
 const ROOT: Around = Around {
-    before: HARMONY_ROOT,
-    step: ROOT_STEP,
-    alter: ROOT_ALTER,
-    end: ROOT_KIND,
+    before: b"<harmony><root><root-step>",
+    step: b"</root-step>",
+    alter: b"<root-alter>-1</root-alter>",
+    end: b"</root><kind>",
 };
 
 const BASS: Around = Around {
-    before: BASS_OPEN,
-    step: BASS_STEP,
-    alter: BASS_ALTER,
-    end: BASS_END,
+    before: b"<bass><bass-step>",
+    step: b"</bass-step>",
+    alter: b"<bass-alter>-1</bass-alter>",
+    end: b"</bass>",
 };
-
-const THREE: u64 = 0x0100000000000033; // 3
-
-const FIVE: u64 = 0x0100000000000035; // 5
 
 // The element, written to the front of `out`. What a kind has beside its triad sounds, or it would be another kind.
 pub fn harmony(root: u32, bass: Option<u32>, set: u32, out: &mut [u8]) -> Result<usize, Refusal>
@@ -56,15 +49,15 @@ pub fn harmony(root: u32, bass: Option<u32>, set: u32, out: &mut [u8]) -> Result
     }
     let mut element = Element::new();
     push_pitch(&mut element, root, ROOT);
-    push_words(&mut element, kind.name);
-    push_words(&mut element, KIND_END);
+    element.push(kind.name);
+    element.push(b"</kind>");
     if let Some(class) = bass {
         push_pitch(&mut element, class, BASS);
     }
     push_adds(&mut element, kind.outside & intervals(set));
-    push_subtract(&mut element, set, kind.third, THREE);
-    push_subtract(&mut element, set, kind.fifth, FIVE);
-    push_words(&mut element, HARMONY_END);
+    push_subtract(&mut element, set, kind.third, b"3");
+    push_subtract(&mut element, set, kind.fifth, b"5");
+    element.push(b"</harmony>");
     element.give(out)
 }
 
@@ -74,11 +67,11 @@ fn push_pitch(element: &mut Element, class: u32, around: Around)
     ensures { Adds element.old (pitch_text class around) element.new }
 {
     let name = class_name(Names::Flats, class);
-    push_words(element, around.before);
-    element.push_byte((name % 0x100) as u8);
-    push_words(element, around.step);
+    element.push(around.before);
+    element.push(&[(name % 0x100) as u8]);
+    element.push(around.step);
     if name >> 56 == 2 {
-        push_words(element, around.alter);
+        element.push(around.alter);
     }
-    push_words(element, around.end);
+    element.push(around.end);
 }

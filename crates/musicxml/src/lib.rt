@@ -2,6 +2,6 @@
 #![tactic(auto)]
 
 mod degrees;
+mod element;
 pub mod harmony;
 mod kinds;
-mod texts;

@@ -2,7 +2,6 @@
 use Rattle.std.specs.Prelude.{cond, List, [], ◌++◌, ℕ, eqb, length, take}
 use Rattle.names.specs.Names.{flats, name_of}
 use Rattle.musicxml.specs.declared.harmony.Around.{Around}
-use Rattle.musicxml.specs.private.Texts.{words_text}
 
 -- a name's letter, and an alter if the name has two bytes, with what is around them
 unfoldable pub named_text : List ℕ → List ℕ → List ℕ → List ℕ → List ℕ → List ℕ
@@ -11,4 +10,4 @@ named_text name before step alter end = before ++ take 1 name ++ step ++ cond (e
 -- the same of a class
 abbrev pub pitch_text : ℕ → Around → List ℕ
 pitch_text class around =
-    named_text (name_of flats class) (words_text around.before.now) (words_text around.step.now) (words_text around.alter.now) (words_text around.end.now)
+    named_text (name_of flats class) around.before.now around.step.now around.alter.now around.end.now
