@@ -35,7 +35,7 @@ pub(crate) fn push_subtract(element: &mut Element, set: u32, class: u32, value: 
     }
 }
 
-// A degree, and what its type ends with: what is known at a call is copied with no loop, and in as few texts as may be.
+// A degree, with its type and what follows it in one text. In two texts, or not inlined, an element takes longer than before (measured).
 #[inline(always)]
 fn push_degree(element: &mut Element, value: &[u8], alter: &[u8], end: &[u8])
     ensures { Adds element.old (degree_text value.now alter.now end.now) element.new }
