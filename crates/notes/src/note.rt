@@ -142,9 +142,9 @@ struct Known {
 impl Model for Known {
     ghost use Rattle.std.specs.Prelude.{◌≡◌, true};
     ghost use Rattle.notes.specs.Notes.{is_note};
-    ghost use Rattle.notes.specs.declared.note.Note.{Note as Any};
+    ghost use Rattle.notes.specs.declared.note.Note.{Note};
 
-    ghost Value = { Any };
+    ghost Value = { Note };
 
     ghost view = { λ k. k.note };
 
