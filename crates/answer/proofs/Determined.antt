@@ -16,6 +16,7 @@ use Rattle.answer.proofs.word.put.Reads as put
 use Rattle.answer.proofs.text.Text.new.Reads as new
 use Rattle.answer.proofs.text.Text.push.Reads as push
 use Rattle.answer.proofs.text.Text.push_byte.Reads as push_byte
+use Rattle.answer.proofs.text.Text.push_bytes.Reads as push_bytes
 use Rattle.answer.proofs.text.Text.as_slice.Reads as as_slice
 use Rattle.answer.proofs.text.Text.give.Reads as text_give
 
@@ -62,6 +63,9 @@ module _ (n : ℕ) (small : Fits w64 n) where
 
   pub push_byte_decides : DecidesWith (push_byte.Post n small) (λ κs s. s.0.now)
   push_byte_decides κs a r r' s s' p q = (refl, determined p q)
+
+  pub push_bytes_decides : DecidesWith (push_bytes.Post n small) (λ κs s. s.0.now)
+  push_bytes_decides κs a r r' s s' p q = (refl, determined p.is q.is)
 
   pub as_slice_decides : DecidesBytes (as_slice.Post n small)
   as_slice_decides κs a r r' s s' = determined

@@ -1,6 +1,6 @@
 // A text in the making: at most `N` bytes, in memory of its own.
 ghost use Rattle.std.specs.Prelude.{◌≡◌, []};
-ghost use Rattle.answer.specs.Made.{with_byte, with_word};
+ghost use Rattle.answer.specs.Made.{with_byte, with_word, IsWithBytes};
 ghost use Rattle.answer.specs.Replies.{text, Answered};
 
 use crate::output::give;
@@ -50,6 +50,19 @@ impl<const N: usize> Text<N> {
         if self.length < N {
             self.bytes[self.length] = byte;
             self.length += 1;
+        }
+    }
+
+    // Adds bytes; where they have no room, the text stays.
+    pub fn push_bytes(&mut self, bytes: &[u8])
+        ensures { IsWithBytes N self.old bytes.now self.new }
+    {
+        let at = self.length;
+        if bytes.len() <= N - at {
+            let end = at + bytes.len();
+            let memory = &mut self.bytes[..];
+            memory[at..end].copy_from_slice(bytes);
+            self.length = end;
         }
     }
 

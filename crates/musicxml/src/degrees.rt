@@ -40,12 +40,12 @@ pub(crate) fn push_subtract(element: &mut Element, set: u32, class: u32, value: 
 fn push_degree(element: &mut Element, value: &[u8], alter: &[u8], end: &[u8])
     ensures { Adds element.old (degree_text value.now alter.now end.now) element.new }
 {
-    element.push(b"<degree><degree-value>");
-    element.push(value);
-    element.push(b"</degree-value><degree-alter>");
-    element.push(alter);
-    element.push(b"</degree-alter><degree-type>");
-    element.push(end);
+    element.push_bytes(b"<degree><degree-value>");
+    element.push_bytes(value);
+    element.push_bytes(b"</degree-value><degree-alter>");
+    element.push_bytes(alter);
+    element.push_bytes(b"</degree-alter><degree-type>");
+    element.push_bytes(end);
 }
 
 // An interval's degree by `to_degree`, and how far it is from that of a dominant chord.

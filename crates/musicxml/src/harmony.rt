@@ -49,15 +49,15 @@ pub fn harmony(root: u32, bass: Option<u32>, set: u32, out: &mut [u8]) -> Result
     }
     let mut element = Element::new();
     push_pitch(&mut element, root, ROOT);
-    element.push(kind.name);
-    element.push(b"</kind>");
+    element.push_bytes(kind.name);
+    element.push_bytes(b"</kind>");
     if let Some(class) = bass {
         push_pitch(&mut element, class, BASS);
     }
     push_adds(&mut element, kind.outside & intervals(set));
     push_subtract(&mut element, set, kind.third, b"3");
     push_subtract(&mut element, set, kind.fifth, b"5");
-    element.push(b"</harmony>");
+    element.push_bytes(b"</harmony>");
     element.give(out)
 }
 
@@ -67,11 +67,11 @@ fn push_pitch(element: &mut Element, class: u32, around: Around)
     ensures { Adds element.old (pitch_text class around) element.new }
 {
     let name = class_name(Names::Flats, class);
-    element.push(around.before);
-    element.push(&[(name % 0x100) as u8]);
-    element.push(around.step);
+    element.push_bytes(around.before);
+    element.push_bytes(&[(name % 0x100) as u8]);
+    element.push_bytes(around.step);
     if name >> 56 == 2 {
-        element.push(around.alter);
+        element.push_bytes(around.alter);
     }
-    element.push(around.end);
+    element.push_bytes(around.end);
 }

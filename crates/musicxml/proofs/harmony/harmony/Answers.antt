@@ -19,14 +19,14 @@ use Rattle.harmonies.proofs.Lossless.{class_of_lem}
 use Rattle.musicxml.specs.private.Kinds.{IsKind}
 use Rattle.musicxml.specs.private.Texts.{Adds}
 use Rattle.musicxml.proofs.Pitched.{root_text, bass_text_lem}
-use Rattle.musicxml.proofs.Pushed.{nothing, then, named}
+use Rattle.musicxml.proofs.Pushed.{made, nothing, then, named}
 use Rattle.musicxml.proofs.Replied.{on_shown, by_the_shown, no_class, element}
 use Rattle.musicxml.proofs.Whole.{whole_text, whole, few}
 use Rattle.musicxml.proofs.harmony.harmony.Goals as goal
-use Rattle.musicxml.proofs.harmony.harmony.Goals.{After-push-3, Joined-bass, in-Some, in_default}
+use Rattle.musicxml.proofs.harmony.harmony.Goals.{After-push_bytes-3, Joined-bass, in-Some, in_default}
 
 -- the bass, or nothing
-bass : (c : Joined-bass) → is_bass c.args.bass ≡ true → Adds c.push-2.new.self (written (bass_of flats c.args.bass)) c.match-bass.element
+bass : (c : Joined-bass) → is_bass c.args.bass ≡ true → Adds c.push_bytes-2.new.self (written (bass_of flats c.args.bass)) c.match-bass.element
 unfolding written bytes
 bass c is = elim c.match-bass.branch [
   | in-Some w ↦
@@ -36,15 +36,15 @@ bass c is = elim c.match-bass.branch [
 ]
 
 -- all texts in a row
-row : (c : After-push-3)
-    → Adds c.push-2.new.self (written (bass_of flats c.args.bass)) c.match-bass.element
+row : (c : After-push_bytes-3)
+    → Adds c.push_bytes-2.new.self (written (bass_of flats c.args.bass)) c.match-bass.element
     → bit_and c.of-kind.result.outside c.intervals.result < 2 ^ 23
-    → Adds [] (whole_text c.of-kind.result c.intervals.result c.args.root c.args.bass c.args.set) c.push-3.new.self
+    → Adds [] (whole_text c.of-kind.result c.intervals.result c.args.root c.args.bass c.args.set) c.push_bytes-3.new.self
 unfolding bytes
 row c under few =
     let root = subst (λ (t : List ℕ). Adds t (root_text c.args.root) c.push_pitch.new.element) c.new-element.ensures c.push_pitch.ensures in
     let adds = named (ap (λ (n : ℕ). written (degrees (map add_of (intervals_in n)))) (mod-eq_of_lt few)) c.push_adds.ensures in
-    then (then (then (then (then (then (then root c.push.ensures) c.push-2.ensures) under) adds) c.push_subtract.ensures) c.push_subtract-2.ensures) c.push-3.ensures
+    then (then (then (then (then (then (then root (made c.push_bytes.ensures)) (made c.push_bytes-2.ensures)) under) adds) c.push_subtract.ensures) c.push_subtract-2.ensures) (made c.push_bytes-3.ensures)
 
 pub returns-in_err-shown : goal.returns-in_err-shown
 returns-in_err-shown c =
@@ -69,7 +69,7 @@ returns c =
     let last = leb→le a.root 11 (left (leb a.root 11) _ (said _ good)) in
     let class : a.root < 12 = omega arith in
     let over = is_true (is_bass a.bass) (right (leb a.root 11) _ (said _ good)) in
-    let texts = row p.After-push-3 (bass p.Joined-bass over) (few a.set shown.0 c.of-kind.result c.intervals.result kind all) in
+    let texts = row p.After-push_bytes-3 (bass p.Joined-bass over) (few a.set shown.0 c.of-kind.result c.intervals.result kind all) in
     let is = named (sym (whole a.set shown.0 c.of-kind.result c.intervals.result kind all a.root a.bass class)) texts in
     let short = harmony_short a.root a.bass a.set class over shown.0 in
     let made = is.where_room (omega (arith, short)) in
