@@ -15,7 +15,7 @@ pub(crate) struct Parts<'a> {
 
 impl<'a> Parts<'a> {
     // The next part; one that is not there has no bytes.
-    pub fn next(&mut self) -> &'a [u8] {
+    pub(crate) fn next(&mut self) -> &'a [u8] {
         let rest = self.rest;
         match rest.iter().position(|byte| *byte == b' ') {
             Some(end) => {
@@ -29,12 +29,12 @@ impl<'a> Parts<'a> {
         }
     }
 
-    pub fn number(&mut self) -> u32 {
+    pub(crate) fn number(&mut self) -> u32 {
         number(self.next())
     }
 
     // A number that may be below 0, as far as it fits.
-    pub fn signed(&mut self) -> i32 {
+    pub(crate) fn signed(&mut self) -> i32 {
         match self.next() {
             [b'-', digits @ ..] => i32::try_from(number(digits)).map_or(i32::MIN, |size| -size),
             digits => (number(digits) % LOWEST) as i32,
@@ -42,7 +42,7 @@ impl<'a> Parts<'a> {
     }
 
     // The bytes of a list, commas between. A list of none is a minus.
-    pub fn bytes(&mut self) -> Text<RANGE> {
+    pub(crate) fn bytes(&mut self) -> Text<RANGE> {
         let mut list = Text::new();
         for item in self.next().split(|byte| *byte == b',') {
             let digits = digits(item);
