@@ -3,10 +3,7 @@ ghost use Rattle.answer.specs.Replies.{text, Answered};
 
 use crate::refusal::Refusal;
 
-// What a call that writes answers: the count of bytes written, or why it wrote none.
-pub type Output = Result<usize, Refusal>;
-
-// Writes the whole of `from` to the front of `out`, or refuses where there is no room for it.
+// Writes the whole of `from` to the front of `out`, and returns the count of bytes written; or refuses where there is no room for it.
 pub fn give(from: &[u8], out: &mut [u8]) -> Result<usize, Refusal>
     ensures { Answered (text from.now) out.old result out.new }
 {

@@ -18,6 +18,7 @@ pub enum Refusal {
 }
 
 impl Refusal {
+    // No `From`: a refusal has a number and a place, and neither is the refusal.
     pub fn number(self) -> u32
         ensures { result ≡ (told_of self).number }
     {

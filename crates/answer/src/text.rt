@@ -1,4 +1,4 @@
-// A text in the making: at most `N` bytes, in memory of its own.
+// A text in the making: at most `N` bytes at the front of an array, since the library has no heap.
 ghost use Rattle.std.specs.Prelude.{◌≡◌, []};
 ghost use Rattle.answer.specs.Made.{with_byte, with_word, IsWithBytes};
 ghost use Rattle.answer.specs.Replies.{text, Answered};
@@ -39,6 +39,7 @@ impl<const N: usize> Text<N> {
     pub fn push(&mut self, word: u64)
         ensures { self.new ≡ with_word N self.old word }
     {
+        // A word may tell of more than seven bytes; it adds its eight at most.
         let at = self.length;
         self.length = put(&mut self.bytes, at, word).min(at + 8);
     }

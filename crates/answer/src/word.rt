@@ -3,7 +3,7 @@
 ghost use Rattle.std.specs.Prelude.{◌≡◌};
 ghost use Rattle.answer.specs.Words.{place_after, put_at};
 
-// Stores a word's eight bytes at a place of a buffer, and answers the place behind its text: a next word goes there.
+// Takes a buffer and a place, and no `Text`, because `place_after` and `put_at` may not change. Stores a word's eight bytes at a place of a buffer, and answers the place behind its text: a next word goes there.
 // Where the eight bytes have no room nothing is stored, and the place stays.
 pub fn put(buffer: &mut [u8], at: usize, word: u64) -> usize
     ensures { (result ≡ place_after buffer.old at word) × (buffer.new ≡ put_at buffer.old at word) }

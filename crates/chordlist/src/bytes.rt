@@ -1,4 +1,4 @@
-// Up to N bytes in a row. Beside `answer::text::Text`, since that can't be cleared, nor lent to a call that writes.
+// Up to N bytes in a row. `Text` would be no plainer: to clear it, or to lend its array to a call that writes, would take public functions for this program alone.
 ghost use Rattle.std.specs.Prelude.{◌≡◌, ℕ, ◌≤◌, List, [], ◌∷◌, ◌++◌, length, take};
 
 use std::marker::Model;

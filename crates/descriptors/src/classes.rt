@@ -70,6 +70,7 @@ impl Classes {
             | set / CLASS_11 % 2 * MAJOR_SEVENTH
     }
 
+    // A function for each rule, as the rules have them: one for all would take its masks and name no rule.
     // 3 is #9 if a major third is present, else minor third.
     fn resolve_third(self) -> u32
         ensures { result ≡ set_of (of_class3 self.bits) }

@@ -27,7 +27,8 @@ const DEGREE_11: u32 = 1 << 11;
 
 const DEGREE_13: u32 = 1 << 13;
 
-// All that a suffix names of a rooted set. Of the adds, the nine is the one that goes in behind the `6`; the third, under sus, is the last.
+// All that a suffix names of a rooted set. All are sets, with a bit for each member: one writer
+// serves them. `nine` is the 9 among the adds that goes behind the `6`; `third` is the 3 that sus adds last.
 #[derive(Clone, Copy)]
 pub struct Descriptor {
     pub set: u32,
@@ -104,6 +105,7 @@ fn adds(diminished: bool, extensions: u32, unstacked: u32, own: u32) -> u32
     extensions & (unstacked & !(own / CLASS_9 % 2 * THIRTEENTH) | MAJOR_SEVENTH)
 }
 
+// This and those below are a function for each rule: one for two of them would take a mask and name neither.
 // The 9 among the adds of Maj6 or Mi6, which goes in behind the `6`.
 fn nine_behind_six(sixth: bool, adds: u32) -> u32
     ensures { result ≡ nine_from sixth adds }

@@ -6,7 +6,7 @@ ghost use Rattle.rules.specs.Classes.{intervals_in};
 use intervals::interval::Interval;
 use std::marker::Model;
 
-// How many intervals there are: each has a bit.
+// How many sets of intervals there are: each interval has a bit.
 const SETS: u32 = 1 << 23;
 
 // Those that are still to come.

@@ -1,5 +1,5 @@
 // The calls that C links: each hands its arguments on to the boundary's function of that name, and promises what that promises.
-// include/hemotusap.h declares them. No contract fixes the order of parameters: tests/run-differential notices a wrong one.
+// Two crates, since one is a library or a static library. include/hemotusap.h declares them. No contract fixes the order of parameters: tests/run-differential notices a wrong one.
 #![tactic(auto)]
 
 pub mod moves;

@@ -8,7 +8,7 @@ use names::table::Names;
 use notes::note::Note;
 use qualities::quality::ChordQuality;
 
-// What the host gives for no bass.
+// What the host gives for no bass, and below what it gets: the C interface has numbers for none.
 const NO_BASS: u32 = 255;
 
 // What it gets for none.

@@ -35,7 +35,7 @@ pub fn suffix(set: u32, out: &mut [u8]) -> Result<usize, Refusal>
 
 // Writes the suffix of a rooted set at a place of a buffer, and answers the place behind it: what comes next goes there. Where the number is
 // no rooted set, or the longest suffix and a word's eight bytes have no room, nothing is written and the place stays. What stands behind the
-// place is the writer's own.
+// place the contract leaves open.
 // It has a buffer with a place beside it, and no `Text`, because `PutsSuffix` may not change.
 pub fn put_suffix(buffer: &mut [u8], at: usize, set: u32) -> usize
     ensures { PutsSuffix set buffer.old at result buffer.new }

@@ -14,7 +14,7 @@ pub(crate) const SUS: u64 = 0x0300000000737573; // sus
 
 pub(crate) const NINE: u64 = 0x0100000000000039; // 9
 
-// What stands before the first of some parts.
+// What stands before the first of some parts. `None` is a case of the three, so that a table has one pattern for each.
 #[derive(Clone, Copy)]
 pub enum Prefix {
     None,

@@ -95,7 +95,7 @@ type D = IntDegree;
 struct About(u32, u32, IntDegree, IntDegree, u64);
 
 impl Interval {
-    // The interval that a number names: 0 to 22, in the order above.
+    // No `TryFrom`: it would need an error, and every caller wants an Option. The interval that a number names: 0 to 22, in the order above.
     #[tactic(auto, using(crate::proofs::Rows::past), unfolding(crate::specs::Intervals::intervals, crate::specs::Intervals::nth, crate::specs::Intervals::numbered))]
     pub fn from_number(number: u32) -> Option<Interval>
         ensures { result ≡ numbered number }
@@ -159,6 +159,7 @@ impl Interval {
         }
     }
 
+    // Columns of the table, and no `From`: an interval has several numbers.
     pub fn number(self) -> u32
         ensures { result ≡ number_of self }
     {

@@ -3,6 +3,7 @@
 use Rattle.answer.proofs.Determined.{Decides, determined}
 use Rattle.keys.proofs.bits.in_set.Reads as in-set
 use Rattle.keys.proofs.bits.take_out.Reads as take_out
+use Rattle.keys.proofs.nearest.distance.Reads as distance
 use Rattle.keys.proofs.nearest.nothing.Reads as nothing
 use Rattle.keys.proofs.nearest.nearest.Reads as nearest
 
@@ -17,3 +18,6 @@ nothing_decides κs a r r' s s' = determined
 
 pub nearest_decides : Decides nearest.Post
 nearest_decides κs a r r' s s' = determined
+
+pub distance_decides : Decides distance.Post
+distance_decides κs a r r' s s' = determined

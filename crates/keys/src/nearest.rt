@@ -1,5 +1,6 @@
 // The key of a tone that is nearest to a wanted one.
 ghost use Rattle.std.specs.Prelude.{◌≡◌, ◌⊎◌, ◌+◌, ◌-◌, ◌*◌, ◌≤◌, ◌<◌};
+ghost use Rattle.keys.specs.Choice.{distance};
 ghost use Rattle.keys.specs.private.Ranked.{first_key, nothing, nearest_of};
 
 use pool::pool::Tone;
@@ -65,6 +66,12 @@ fn octaves(first: u32, wanted: u8, limit: u8) -> u32
     up.min(top)
 }
 
+pub fn distance(a: u8, b: u8) -> u8
+    ensures { result ≡ distance a b }
+{
+    a.abs_diff(b)
+}
+
 // What a tone offers: of its keys in a span, the one nearest to the wanted.
 pub fn nearest(tone: Tone, wanted: u8, span: Span) -> Offer
     ensures { result ≡ nearest_of span.lowest span.limit wanted tone }
@@ -75,7 +82,7 @@ pub fn nearest(tone: Tone, wanted: u8, span: Span) -> Offer
     }
     let key = (first + 12 * octaves(first, wanted, span.limit)) as u8;
     Offer {
-        rank: wanted.abs_diff(key),
+        rank: distance(wanted, key),
         key,
         interval: tone.interval,
     }

@@ -7,10 +7,10 @@ ghost use Rattle.leads.specs.Lead.{rubs, unbarred, owns, without_last, lead_of};
 ghost use Rattle.leads.specs.private.Leaves.{left_by, led_of};
 
 use keys::bits::in_set;
-use keys::nearest::{OCTAVE_KEY, Span, nearest, nothing};
+use keys::nearest::{OCTAVE_KEY, Span, distance, nearest, nothing};
 use pool::pool::{Pairs, Pool, Tone, ordered_pool};
 
-// What is left of the pool once the lead has left, and the lead. The pool comes first, where a copy of it is aligned.
+// What is left of the pool once the lead has left, and the lead. The pool comes first, where it is aligned.
 #[derive(Drop)]
 pub struct Led {
     pub left: Pool,
@@ -23,7 +23,7 @@ const EVERY: u32 = (1 << 23) - 1;
 fn rubs(tone: Tone, next: Tone) -> bool
     ensures { result ≡ rubs tone next }
 {
-    let apart = tone.base.abs_diff(next.base);
+    let apart = distance(tone.base, next.base);
     (apart == 1) | (apart == 11)
 }
 
@@ -52,7 +52,7 @@ fn unbarred(tones: &[Tone]) -> u32
     free
 }
 
-// The lead: the nearest key of an unbarred tone, or 0 where none has a key.
+// The lead: the nearest key of an unbarred tone, or 0 where none has a key. As `best` of crate `voicings`, but of offers that are made one by one, and kept nowhere.
 fn lead_key(tones: &[Tone], wanted: u8, span: Span) -> u8
     ensures { result ≡ lead_of span.lowest span.limit wanted tones.now }
 {

@@ -10,7 +10,7 @@ use answer::refusal::Refusal;
 use answer::text::Text;
 use inference::normalize::{ROOM as SUFFIX_ROOM, push_suffix};
 
-// Above the rooted sets, which are the odd numbers.
+// One past the last set; the rooted sets are the odd numbers below it.
 const SETS: u16 = 4096;
 
 // No suffix has more bytes.

@@ -85,6 +85,7 @@ module _ (n : ℕ) where
     all_raised = ap (chords (class_set (raised n codes))) firsts_raised ∙ chords_raised (firsts codes)
 
   pub numbered_raised : (listed : List Candidate) (number : ℕ) → numbered_in (map (chord_raised n) listed) number ≡ answer_raised n (numbered_in listed number)
+  unfolding numbered_in
   numbered_raised [] number = refl
   numbered_raised (c ∷ more) zero = refl
   numbered_raised (c ∷ more) (suc number) = numbered_raised more number

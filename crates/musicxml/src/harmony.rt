@@ -16,7 +16,7 @@ use intervals::bass::is_bass;
 use intervals::set::LAST_CLASS;
 use names::table::{Names, class_name};
 
-// What stands before a class's step, before its alter, as its alter, and behind it.
+// What stands before a class's step and behind it, for a flat, and at the end.
 #[derive(Clone, Copy)]
 struct Around {
     before: &'static [u8],
@@ -39,7 +39,7 @@ const BASS: Around = Around {
     end: b"</bass>",
 };
 
-// The element, written to the front of `out`. What a kind has beside its triad sounds, or it would be another kind.
+// The element, written to the front of `out`. A kind's sixth or seventh always sounds, so that only its third and fifth are subtracted.
 pub fn harmony(root: u32, bass: Option<u32>, set: u32, out: &mut [u8]) -> Result<usize, Refusal>
     ensures { Answered (harmony_reply flats root bass set) out.old result out.new }
 {
@@ -61,7 +61,7 @@ pub fn harmony(root: u32, bass: Option<u32>, set: u32, out: &mut [u8]) -> Result
     element.give(out)
 }
 
-// A class as step and alter, by its name: one of two bytes has a flat.
+// A class as step and alter, off the word of its name, which is there: one of two bytes has a flat.
 fn push_pitch(element: &mut Element, class: u32, around: Around)
     requires { class < 12 }
     ensures { Adds element.old (pitch_text class around) element.new }

@@ -21,6 +21,7 @@ struct Row(u32, Option<i32>, u64, u64);
 // How many classes there are.
 const CLASSES: u32 = 12;
 
+// Past the table a row of empty words, and no Option: `class_name` answers for every number.
 #[tactic(auto, unfolding(answer::specs::Words::bytes, answer::specs::Words::low, answer::specs::Words::packed, notes::specs::NoteText::letter_name, notes::specs::NoteText::note_name, notes::specs::NoteText::signs, crate::specs::Names::flats, crate::specs::Names::sharps))]
 fn row_of(class: u32) -> Row
     ensures { Tells class result }

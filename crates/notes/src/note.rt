@@ -21,6 +21,7 @@ pub struct Note {
 // The height of no accidental, and one that no count has.
 const NATURAL: u32 = 6;
 
+// A number and no Option, so that one comparison tells a note.
 const NO_HEIGHT: u32 = 13;
 
 // The height of a count: how far it is above six flats, 0 to 12.
@@ -50,19 +51,10 @@ fn at_height(letter: u32, height: u32) -> Note
     requires { height < 13 }
     ensures { result ≡ note_of letter (pos height -ℤ pos 6) }
 {
-    if height == NATURAL {
-        return Note {
-            letter,
-            accidental: None,
-        };
-    }
-    let count = height as i32 - 6;
-    Note {
-        letter,
-        accidental: Some(count),
-    }
+    Note::new(letter, height as i32 - 6)
 }
 
+// A letter is a number here too, as it is in `Note`: a type beside that would say it twice.
 fn natural_semitone(letter: u32) -> u32
     requires { letter < 7 }
     ensures { (result ≡ natural letter) × (result < 12) }

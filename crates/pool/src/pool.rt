@@ -15,7 +15,7 @@ pub struct Tone {
     pub interval: u8,
 }
 
-// The pairs of note class and interval that a host gives, in two ranges side by side.
+// The pairs of note class and interval that a host gives, in two ranges side by side: so they come from C (`hemotusap_voicing`).
 #[derive(Clone, Copy)]
 pub struct Pairs<'a> {
     pub classes: &'a [u8],
@@ -98,7 +98,7 @@ impl Pool {
     }
 }
 
-// The tones of the pairs that are used, in order of base; of more than the most, the first. By index: three runs go side by side.
+// The tones of the pairs that are used, in order of base; of more than the most, the first. By index: `zip` would be one of three runs, with two pairs to take apart.
 pub fn ordered_pool(pairs: Pairs) -> Pool
     ensures { result ≡ sorted (take 16 (tones_of pairs.entry.classes.now pairs.entry.intervals.now)) }
 {

@@ -179,6 +179,7 @@ impl ChordQuality {
         }
     }
 
+    // Columns of the table, and no `From`: a quality has several numbers.
     pub fn number(self) -> u32
         ensures { result ≡ quality_number self }
     {

@@ -3,7 +3,7 @@ ghost use Rattle.std.specs.Prelude.{◌≡◌, ◌==◌, position};
 ghost use Rattle.answer.specs.Lines.{line_feed};
 ghost use Rattle.signatures.specs.Part.{found_in};
 
-const LINE_FEED: u8 = 10;
+const LINE_FEED: u8 = b'\n';
 
 // How many bytes a text has before its first LF.
 fn first_length(text: &[u8]) -> Option<usize>

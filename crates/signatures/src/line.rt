@@ -62,7 +62,8 @@ impl<'a> Listings<'a> {
         })
     }
 
-    // Where a candidate's line stands; where there is none, the empty part at the end of the flat listing.
+    // Where a candidate's line stands; where there is none, the empty part at the end of the flat listing, and no Option: `part_of` is what the
+    // boundary promises.
     pub fn line_part(self, number: u32, fifths: i32) -> Part
         ensures { result ≡ part_of self.entry.flat.now self.entry.sharp.now number fifths }
     {

@@ -34,6 +34,6 @@ returns c = let o = c.octaves in
     let top = subst (λ (k : ℕ). k + 12 * n < l) f.ensures o.ensures.0 in
     let up = subst (λ (k : ℕ). 12 * n ≤ w - k + 5) f.ensures o.ensures.1 in
     let end = subst (λ (k : ℕ). (l ≤ k + 12 * n + 12) ⊎ (w ≤ k + 12 * n + 6)) f.ensures o.ensures.2 in
-    rw c.abs_diff.ensures
+    rw c.distance.ensures
     (ap (λ (k : ℕ). ranked w (tone_key a.tone.interval (k + 12 * n))) f.ensures
     ∙ sym (ap (offered w a.tone.interval) (reached a.span.lowest l w a.tone.interval a.tone.class (omega arith) n top up end)))
