@@ -4,7 +4,7 @@
 --     one_more     so a pool to which it is put has one tone of them more
 --     removed      without the tone at a place: those before it, and those behind it
 --     past_last    past the last tone none goes
-use Rattle.answer.proofs.Kit.{◌≡◌, refl, sym, ap, ap₂, ◌∙◌, List, [], ◌∷◌, ◌++◌, ℕ, zero, suc, ◌+◌, ◌-◌, ◌≤◌, ◌<◌, min, not-suc-le-zero, le_of_suc-le-suc, add-one, arith, length, get_or, set, take, drop, take-suc, take-suc-set}
+use Rattle.answer.proofs.Kit.{◌≡◌, refl, sym, ap, ap₂, ◌∙◌, List, [], ◌∷◌, ◌++◌, ℕ, zero, suc, ◌+◌, ◌-◌, ◌≤◌, ◌<◌, min, not-suc-le-zero, le_of_suc-le-suc, add-one, arith, length, get_or, set, take, slice, take-suc, take-suc-set}
 use Rattle.pool.specs.declared.pool.Tone.{Tone}
 use Rattle.pool.specs.Pool.{tone_of, tones_of, without_at}
 
@@ -27,17 +27,16 @@ one_more cs is run i h k e =
     let t = tone_of (get_or cs i 0) (get_or is i 0) in
     rw add-one (take-suc-set run i t k ∙ ap₂ (λ (x : List Tone) (y : Tone). x ++ y ∷ []) e (sym (tone_at t cs is i h)) ∙ sym (take-suc (tones_of cs is) i t h))
 
-behind : (l : List Tone) (i n : ℕ) → i < n → n ≤ length l → take i l ++ take (n - suc i) (drop (suc i) l) ≡ without_at i (take n l)
+split : (l : List Tone) (i n : ℕ) → i < n → take i l ++ slice (suc i) n l ≡ without_at i (take n l)
 unfolding without_at
-behind l i zero h k = absurd (not-suc-le-zero h)
-behind [] i (suc n) h k = absurd (not-suc-le-zero k)
-behind (t ∷ l) zero (suc n) h k = let e : suc n - 1 ≡ n = omega arith in ap (λ (m : ℕ). take m l) e
-behind (t ∷ l) (suc i) (suc n) h k =
-    let e : suc n - suc (suc i) ≡ n - suc i = omega arith in
-    rw e (ap (λ (x : List Tone). t ∷ x) (behind l i n (le_of_suc-le-suc h) (le_of_suc-le-suc k)))
+split l i zero h = absurd (not-suc-le-zero h)
+split [] zero (suc n) h = refl
+split [] (suc i) (suc n) h = refl
+split (t ∷ l) zero (suc n) h = refl
+split (t ∷ l) (suc i) (suc n) h = ap (λ (x : List Tone). t ∷ x) (split l i n (le_of_suc-le-suc h))
 
-pub removed : (l : List Tone) (i n : ℕ) → i < n → n ≤ length l → take i l ++ take (n - (i + 1)) (drop (i + 1) l) ≡ without_at i (take n l)
-removed l i n h k = rw add-one (behind l i n h k)
+pub removed : (l : List Tone) (i n : ℕ) → i < n → take i l ++ slice (i + 1) n l ≡ without_at i (take n l)
+removed l i n h = rw add-one (split l i n h)
 
 pub past_last : (l : List Tone) (i : ℕ) → length l ≤ i → without_at i l ≡ l
 unfolding without_at

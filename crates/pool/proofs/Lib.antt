@@ -3,3 +3,4 @@ pub mod Sift
 pub mod Gathered
 pub mod Among
 pub mod Determined
+pub mod Left

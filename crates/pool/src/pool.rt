@@ -86,15 +86,18 @@ impl Pool {
         &self.tones[..self.count]
     }
 
-    // Past the last tone the pool stays as it is.
+    // Past the last tone the pool stays as it is. By index, since `copy_within` would take `memmove` of the C library, and the archive takes none.
     pub fn remove(&mut self, place: usize)
         ensures { self.new ≡ without_at place self.old }
     {
         if place >= self.count {
             return;
         }
-        self.tones.copy_within(place + 1..self.count, place);
-        self.count -= 1;
+        let last = self.count - 1;
+        for at in place..last {
+            self.tones[at] = self.tones[at + 1];
+        }
+        self.count = last;
     }
 }
 
