@@ -31,8 +31,7 @@ pub loop-at-preserved : goal.loop-at-preserved
 loop-at-preserved c =
     let l = c.loop-at in
     let tones = l.self-inside.tones in
-    let count : c.self.inside.count - 1 + 1 ≡ c.self.inside.count = omega arith in
-    (
+    let count : c.self.inside.count - 1 + 1 ≡ c.self.inside.count = omega arith in (
       omega arith,
       omega arith,
       simp length-set l.invariant.2,
