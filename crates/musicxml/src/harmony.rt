@@ -61,7 +61,9 @@ pub fn harmony(root: u32, bass: Option<u32>, set: u32, out: &mut [u8]) -> Result
     element.give(out)
 }
 
-// A class as step and alter, off the word of its name, which is there: one of two bytes has a flat.
+// A class as step and alter, off the word of its name, which is there: one of two bytes has a flat. Inlined, so that its texts are constants: of others
+// LLVM copies with `memmove`, which the archive does not take.
+#[inline(always)]
 fn push_pitch(element: &mut Element, class: u32, around: Around)
     requires { class < 12 }
     ensures { Adds element.old (pitch_text class around) element.new }
