@@ -2,9 +2,8 @@
 --     determined     the law: what two answers are both said to equal makes them equal
 --     both           the same of an answer with the bytes that it leaves
 --     Decides        a contract, as its function's proof and its callers read it (`Post`), allows one answer to each call
---     DecidesWith    and one content of the range that it was lent
---     DecidesShown   or, of a reference that it hands back, where that points and the bytes there: what else it has is of the logic, and not of the machine
---     DecidesBytes   or the bytes alone that such a reference shows
+--     DecidesWith    and one content of what it was lent
+--     DecidesShown   or, of a reference that it hands back, where that points and the values there: what else it has is of the logic, and not of the machine
 --     F-decides      the contract of `F` does
 use denote.Ref.{Bor}
 use Rattle.std.proofs.Common.{Fits, w64}
@@ -30,17 +29,14 @@ both p q = (determined p.0 q.0, determined p.1 q.1)
 abbrev pub Decides {ℓ} : {K : Type ℓ} {A R S : K → Type 0} → ((κs : K) → A κs → R κs → S κs → Type 0) → Type ℓ
 Decides {K} {A} {R} {S} Post = (κs : K) (a : A κs) (r r' : R κs) (s s' : S κs) → Post κs a r s → Post κs a r' s' → r ≡ r'
 
--- and what it leaves, read as the bytes of a range that it was lent
-abbrev pub DecidesWith {ℓ} : {K : Type ℓ} {A R S : K → Type 0} → ((κs : K) → A κs → R κs → S κs → Type 0) → ((κs : K) → S κs → List ℕ) → Type ℓ
+-- and what it leaves, read as the bytes of a range that it was lent, or as another value that it was lent
+abbrev pub DecidesWith {ℓ} : {K : Type ℓ} {A R S : K → Type 0} {B : Type 0} → ((κs : K) → A κs → R κs → S κs → Type 0) → ((κs : K) → S κs → B) → Type ℓ
 DecidesWith {K} {A} {R} {S} Post left =
     (κs : K) (a : A κs) (r r' : R κs) (s s' : S κs) → Post κs a r s → Post κs a r' s' → (r ≡ r') × (left κs s ≡ left κs s')
 
-abbrev pub DecidesShown {ℓ} : {K : Type ℓ} {A S : K → Type 0} → ((κs : K) → A κs → Bor (List ℕ) → S κs → Type 0) → Type ℓ
-DecidesShown {K} {A} {S} Post =
-    (κs : K) (a : A κs) (r r' : Bor (List ℕ)) (s s' : S κs) → Post κs a r s → Post κs a r' s' → (r.ref_ptr ≡ r'.ref_ptr) × (r.now ≡ r'.now)
-
-abbrev pub DecidesBytes {ℓ} : {K : Type ℓ} {A S : K → Type 0} → ((κs : K) → A κs → Bor (List ℕ) → S κs → Type 0) → Type ℓ
-DecidesBytes {K} {A} {S} Post = (κs : K) (a : A κs) (r r' : Bor (List ℕ)) (s s' : S κs) → Post κs a r s → Post κs a r' s' → r.now ≡ r'.now
+abbrev pub DecidesShown {ℓ} : {K : Type ℓ} {A S : K → Type 0} {B : Type 0} → ((κs : K) → A κs → Bor B → S κs → Type 0) → Type ℓ
+DecidesShown {K} {A} {S} {B} Post =
+    (κs : K) (a : A κs) (r r' : Bor B) (s s' : S κs) → Post κs a r s → Post κs a r' s' → (r.ref_ptr ≡ r'.ref_ptr) × (r.now ≡ r'.now)
 
 pub number_decides : Decides number.Post
 number_decides κs a r r' s s' = determined
@@ -67,8 +63,8 @@ module _ (n : ℕ) (small : Fits w64 n) where
   pub push_bytes_decides : DecidesWith (push_bytes.Post n small) (λ κs s. s.0.now)
   push_bytes_decides κs a r r' s s' p q = (refl, determined p.is q.is)
 
-  pub as_slice_decides : DecidesBytes (as_slice.Post n small)
-  as_slice_decides κs a r r' s s' = determined
+  pub as_slice_decides : DecidesShown (as_slice.Post n small)
+  as_slice_decides κs a r r' s s' p q = (determined p.1 q.1, determined p.0 q.0)
 
   pub text_give_decides : DecidesWith (text_give.Post n small) (λ κs s. s.1.0.now)
   text_give_decides κs a r r' s s' = both

@@ -5,7 +5,7 @@
 --     is_short       a text that a word can hold
 --     put_text       such a text's word, put at a place, adds the text to what stands before the place
 --     put_first      and put first, it is the text
-use Rattle.answer.proofs.Kit.{◌≡◌, refl, sym, ap, ap₂, append_assoc, drop-drop, subst, ◌∙◌, Bool, true, ◌&&◌, List, [], ◌∷◌, ◌++◌, ℕ, zero, suc, ◌+◌, ◌*◌, ◌/◌, ◌%◌, ◌-◌, ◌^◌, ◌≤◌, ◌<◌, arith, zero-add, div-div-eq-div-mul, mod-eq_of_lt, not-suc-le-zero, le_of_suc-le-suc, lt_of_lt_of_le, pow-succ', pow-le-pow_right, mul_assoc, pow-add, unary_clauses, le-leb, lt-leb, T, leb, ltb, ltb→lt, leb→le, lit<, length, take, drop, set, length-append, sets, sets-eq, length-take-le, take-append-le, take-append-add}
+use Rattle.answer.proofs.Kit.{◌≡◌, refl, sym, ap, ap₂, append_assoc, drop-drop, subst, ◌∙◌, Bool, true, ◌&&◌, List, [], ◌∷◌, ◌++◌, ℕ, zero, suc, ◌+◌, ◌*◌, ◌/◌, ◌%◌, ◌-◌, ◌^◌, ◌≤◌, ◌<◌, arith, zero-add, div-div-eq-div-mul, not-suc-le-zero, le_of_suc-le-suc, lt_of_lt_of_le, pow-succ', pow-le-pow_right, mul_assoc, pow-add, le-leb, lt-leb, T, leb, ltb, ltb→lt, leb→le, lit<, length, take, drop, length-append, length-take-le, take-append-le, take-append-add}
 use Rattle.std.specs.Int.{w64, to_le_bytes}
 use borrow.Rule.Slice.PartMut.{put_mid}
 use Rattle.answer.proofs.Tests.{left, right}

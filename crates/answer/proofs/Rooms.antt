@@ -4,7 +4,7 @@
 --     no_room       a text longer than the room: refusal 7
 --     written       a text that has room stands at the front
 --     roomy         a room of so many bytes is enough for a text of at most so many
---     copied        a turn of the loop that writes it
+--     copied        a text written as far as a place, and its byte there
 use Rattle.answer.proofs.Kit.{◌≡◌, refl, sym, subst, List, ◌++◌, ℕ, ◌+◌, ◌≤◌, ◌<◌, zero-add, le_trans, add-one, length, take, drop, get_or, set, paste-suc, le-leb, lt-leb, Ok, Err}
 use Rattle.answer.specs.Replies.{Reply, refuse, text, output_of, room_after, Answered, AtMost, unhindered}
 use Rattle.answer.specs.declared.refusal.Refusal.{Refusal}

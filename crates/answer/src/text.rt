@@ -39,9 +39,14 @@ impl<const N: usize> Text<N> {
     pub fn push(&mut self, word: u64)
         ensures { self.new ≡ with_word N self.old word }
     {
-        // A word may tell of more than seven bytes; it adds its eight at most.
         let at = self.length;
-        self.length = put(&mut self.bytes, at, word).min(at + 8);
+        if N < 8 || N - 8 < at {
+            return;
+        }
+        put(&mut self.bytes, at, word);
+
+        // A word may tell of more than seven bytes; it adds its eight at most. From the word alone, so that the next word waits for one sum.
+        self.length = at + ((word >> 56) as usize).min(8);
     }
 
     // Adds a byte; where it has no room, the text stays.
@@ -68,7 +73,8 @@ impl<const N: usize> Text<N> {
     }
 
     pub fn as_slice(&self) -> &[u8]
-        ensures { result.now ≡ self.now }
+        ensures bytes { result.now ≡ self.now }
+        ensures place { result.ref_ptr ≡ self.entry.ref_ptr }
     {
         &self.bytes[..self.length]
     }

@@ -1,4 +1,4 @@
--- A line Some codes exactly when it is their texts with one space between.
+-- A line holds codes exactly when it is their texts with one space between.
 --     spaced_read    such a line is read
 --     read_spaced    and a line that is read is such
 use Rattle.answer.proofs.Kit.{◌≡◌, refl, sym, ap, ap₂, ◌∙◌, Bool, true, true≢false, false, cond, ◌&&◌, List, [], ◌∷◌, ◌++◌, map, append-nil, ℕ, ◌<◌, arith, eqb, leb, ltb, leb→le, ltb→lt, length, length-append, Option, Some, None, ne_eqb, eqb-true}

@@ -33,5 +33,5 @@ one_first None (Some y) s t t' p q = (cc, cc)
 one_first (Some x) None s t t' p q = (cc, cc)
 one_first (Some x) (Some y) s t t' p q = (cc, cc)
 
-pub next_decides : (κs : _) (a : _) (r r' : Option Interval) (s s' : _) → next.Post κs a r s → next.Post κs a r' s' → (r ≡ r') × (s.0.now ≡ s'.0.now)
-next_decides κs a r r' s s' p q = one_first r r' _ _ _ p.0 q.0
+pub next_decides : Decides next.Post × ((κs : _) (a : _) (r r' : Option Interval) (s s' : _) → next.Post κs a r s → next.Post κs a r' s' → s.0.now ≡ s'.0.now)
+next_decides = (λ κs a r r' s s' p q. (one_first r r' _ _ _ p.0 q.0).0, λ κs a r r' s s' p q. (one_first r r' _ _ _ p.0 q.0).1)

@@ -160,7 +160,8 @@ fn omitted_fifth(intervals: u32) -> u32
     0
 }
 
-// All that a suffix names of a rooted set, read off it once.
+// All that a suffix names of a rooted set, read off it once. Inlined, so that it stays in registers: it has several callers.
+#[inline(always)]
 pub fn describe(set: u32) -> Result<Descriptor, Refusal>
     ensures { result ≡ descriptor_answer set }
 {

@@ -64,6 +64,8 @@ pub fn push_suffix<const N: usize>(text: &mut Text<N>, set: u32)
     }
 }
 
+// Inlined, as are both parts of it: a descriptor that is handed over in memory has to be waited for.
+#[inline(always)]
 fn push_described<const N: usize>(text: &mut Text<N>, descriptor: Descriptor)
     ensures { Adds N text.old (head_of descriptor ++ parenthesized (parts_of descriptor)) text.new }
 {
@@ -71,6 +73,7 @@ fn push_described<const N: usize>(text: &mut Text<N>, descriptor: Descriptor)
     push_parentheses(text, descriptor);
 }
 
+#[inline(always)]
 fn push_heading<const N: usize>(text: &mut Text<N>, descriptor: Descriptor)
     ensures { Adds N text.old (head_of descriptor) text.new }
 {
@@ -86,6 +89,7 @@ fn push_heading<const N: usize>(text: &mut Text<N>, descriptor: Descriptor)
 }
 
 // The 9 behind the `6` keeps its place in the numbering: where it is the first, no add carries `add`.
+#[inline(always)]
 fn push_parentheses<const N: usize>(text: &mut Text<N>, descriptor: Descriptor)
     ensures { Adds N text.old (parenthesized (parts_of descriptor)) text.new }
 {

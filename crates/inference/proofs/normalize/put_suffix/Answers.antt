@@ -13,7 +13,7 @@ returns-then-buffer-lt-ROOM c = elim c.then-buffer-lt-ROOM.branch [
 
 -- the text that is copied
 made : (c : After-as_slice-suffix) → c.as_slice-suffix.result.now ≡ with_suffix 72 [] c.args.set
-made c = c.as_slice-suffix.ensures ∙ c.push_suffix.ensures ∙ ap (λ (t : List ℕ). with_suffix 72 t c.args.set) c.new-text.ensures
+made c = c.as_slice-suffix.ensures.bytes ∙ c.push_suffix.ensures ∙ ap (λ (t : List ℕ). with_suffix 72 t c.args.set) c.new-text.ensures
 
 here : (c : After-as_slice-suffix) → c.args.at + 72 ≤ length c.args.buffer.now
 here c = let h = c.if-buffer-at.false in let k = c.if-buffer-lt-ROOM.false in omega arith

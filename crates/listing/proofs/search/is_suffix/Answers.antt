@@ -10,7 +10,7 @@ use Rattle.listing.proofs.search.is_suffix.Goals.{After-as_slice}
 
 made : (c : After-as_slice) → c.as_slice.result.now ≡ suffix_of c.args.set
 made c =
-    c.as_slice.ensures ∙ c.push_suffix.ensures ∙ ap (λ (t : List ℕ). with_suffix 72 t c.args.set) c.new-suffix.ensures
+    c.as_slice.ensures.bytes ∙ c.push_suffix.ensures ∙ ap (λ (t : List ℕ). with_suffix 72 t c.args.set) c.new-suffix.ensures
     ∙ with_set c.args.set 72 [] c.requires (omega arith)
 
 pub returns : goal.returns

@@ -80,7 +80,7 @@ loop-interval-preserved c =
 row : (c : After-as_slice) → c.into_iter-interval-iterator.result ≡ intervals_of c.in_ok-set.set
     → c.as_slice.result.now ≡ row_of spelled_by c.in_ok-root.root (intervals_of c.in_ok-set.set)
 unfolding spaced
-row c all = c.as_slice.ensures ∙ sym (append-nil c.loop-interval.row) ∙ rw (c.in-None.ensures.steps.0, all) at c.loop-interval.invariant
+row c all = c.as_slice.ensures.bytes ∙ sym (append-nil c.loop-interval.row) ∙ rw (c.in-None.ensures.steps.0, all) at c.loop-interval.invariant
 
 some : (c : After-as_slice) → c.into_iter-interval-iterator.result ≡ intervals_of c.in_ok-set.set → 1 ≤ length c.as_slice.result.now
 some c all = rw (row c all) (row_some spelled_by c.in_ok-root.root (intervals_of c.in_ok-set.set) (at_least_one c.in_ok-set.set c.set.ensures.1))

@@ -1,13 +1,11 @@
--- `answer::text::Text::push` meets its contract.
-use Rattle.answer.proofs.Kit.{◌≡◌, ◌≤◌, sym, subst, ap, ◌∙◌, ℕ, take, min}
+-- `answer::text::Text::push` meets its contract: a word is stored where its eight bytes have room.
+use Rattle.answer.proofs.Kit.{◌≤◌, ap, ◌∙◌, ◌+◌, arith}
 use Rattle.answer.specs.Made.{with_word}
-use Rattle.answer.proofs.Made.{with_word_lem, inside_still}
+use Rattle.answer.proofs.Made.{with_word_lem}
 use Rattle.answer.proofs.text.Text.push.Goals as goal
-
-pub invariant_of-self : goal.invariant_of-self
-invariant_of-self g c = rw (c.min-self-inside.ensures, c.put.ensures.0) (inside_still g.row.N c.self.inside.bytes c.self.inside.length c.args.word c.self.told c.self.invariant)
 
 pub returns : goal.returns
 returns g c =
-    rw (c.min-self-inside.ensures, c.put.ensures.0, c.put.ensures.1)
-    (with_word_lem g.row.N c.self.inside.bytes c.self.inside.length c.args.word c.self.told c.self.invariant ∙ ap (λ x. with_word g.row.N x c.args.word) c.self.view_is)
+    let room : c.self.inside.length + 8 ≤ g.row.N = omega (arith, c.if-at.false, c.if-this-lt8.false) in
+    rw (c.min.ensures, c.put.ensures.1)
+    (with_word_lem g.row.N c.self.inside.bytes c.self.inside.length c.args.word c.self.told room ∙ ap (λ x. with_word g.row.N x c.args.word) c.self.view_is)
