@@ -11,7 +11,7 @@ use keys::nearest::{OCTAVE_KEY, Span, distance, nearest, nothing};
 use pool::pool::{Pairs, Pool, Tone, ordered_pool};
 
 // What is left of the pool once the lead has left, and the lead. The pool comes first, where it is aligned.
-#[derive(Drop)]
+#[derive(Clone, Copy)]
 pub struct Led {
     pub left: Pool,
     pub key: u8,
@@ -82,7 +82,8 @@ fn last_owner(tones: &[Tone], key: u8, span: Span) -> Option<usize>
     tones.iter().rposition(|&tone| owns(tone, key, span))
 }
 
-// The lead of the pairs of a chord that is nearest to a wanted key, in a range, and the pool, in order of base, that it leaves.
+// The lead of the pairs of a chord that is nearest to a wanted key, in a range, and the pool, in order of base, that it leaves: what stands
+// behind its tones is as it was.
 pub fn nearest_lead(pairs: Pairs, wanted: u8, span: Span) -> Led
     ensures { result ≡ led_of span.lowest span.limit wanted (sorted (take 16 (tones_of pairs.entry.classes.now pairs.entry.intervals.now))) }
 {

@@ -1,5 +1,6 @@
 // The pool of a chord's tones, as the Rust's `voicings/mod.rs` gathers it.
 ghost use Rattle.std.specs.Prelude.{◌≡◌, ◌≤◌, length, take};
+ghost use Rattle.pool.specs.Held.{places, laid_over, pool_of};
 ghost use Rattle.pool.specs.Pool.{base_of, tone_of, tones_of, without_at};
 ghost use Rattle.pool.specs.Order.{sorted};
 
@@ -26,29 +27,37 @@ pub struct Pairs<'a> {
 pub const MOST: usize = 16;
 
 // What stands where no tone does.
-const BLANK: Tone = Tone {
+pub const BLANK: Tone = Tone {
     base: 0,
     class: 0,
     interval: 0,
 };
 
 // At most so many tones. The first `count` places hold them.
-#[derive(Drop)]
+#[derive(Clone, Copy)]
 pub struct Pool {
-    tones: [Tone; MOST],
-    count: usize,
+    pub tones: [Tone; MOST],
+    pub count: usize,
 }
 
-// Clauses see the list of the tones.
+// Clauses see the list of the tones, and that of what stands behind them: of both the fields can be had again, so that a pool is `Copy`.
 impl Model for Pool {
-    ghost use Rattle.std.specs.Prelude.{List, ◌≤◌, take};
-    ghost use Rattle.pool.specs.declared.pool.Tone.{Tone};
+    ghost use Rattle.std.specs.Prelude.{◌≡◌, ◌≤◌, ◌++◌, length, take, drop};
+    ghost use Rattle.std.proofs.Common.{arith, take-append-drop, length-take-le};
+    ghost use Rattle.pool.specs.Held.{Held};
 
-    ghost Value = { List Tone };
+    ghost Value = { Held };
 
-    ghost view = { λ pool. take pool.count pool.tones };
+    ghost view = { λ pool. record { tones = take pool.count pool.tones; spare = drop pool.count pool.tones } };
 
-    ghost invariant = { λ pool. pool.count ≤ 16 };
+    ghost invariant = { λ pool. (pool.count ≤ 16) × (length pool.tones ≡ 16) };
+
+    ghost inverse = { λ held. record { tones = held.tones ++ held.spare; count = length held.tones } };
+
+    ghost inverse_ok = { λ pool is i. record {
+      tones = take-append-drop pool.count pool.tones i;
+      count = length-take-le pool.count pool.tones (omega (arith, is.0, is.1)) i;
+    } };
 }
 
 fn base(interval: u8) -> u8
@@ -80,15 +89,16 @@ impl Pairs<'_> {
 
 impl Pool {
     pub fn tones(&self) -> &[Tone]
-        ensures tones { result.now ≡ self.now }
-        ensures few { length self.now ≤ 16 }
+        ensures tones { result.now ≡ self.now.tones }
+        ensures few { length self.now.tones ≤ 16 }
+        ensures place { result.ref_ptr ≡ self.entry.ref_ptr }
     {
         &self.tones[..self.count]
     }
 
-    // Past the last tone the pool stays as it is. By index, since `copy_within` would take `memmove` of the C library, and the archive takes none.
+    // What stands behind the tones that are left is as it was; past the last tone the pool stays as it is. By index, since `copy_within` would take `memmove` of the C library, and the archive takes none.
     pub fn remove(&mut self, place: usize)
-        ensures { self.new ≡ without_at place self.old }
+        ensures { self.new ≡ laid_over (without_at place self.old.tones) (places self.old) }
     {
         if place >= self.count {
             return;
@@ -101,9 +111,9 @@ impl Pool {
     }
 }
 
-// The tones of the pairs that are used, in order of base; of more than the most, the first. By index: `zip` would be one of three runs, with two pairs to take apart.
+// The tones of the pairs that are used, in order of base, and blanks behind them; of more than the most, the first. By index: `zip` would be one of three runs, with two pairs to take apart.
 pub fn ordered_pool(pairs: Pairs) -> Pool
-    ensures { result ≡ sorted (take 16 (tones_of pairs.entry.classes.now pairs.entry.intervals.now)) }
+    ensures { result ≡ pool_of (sorted (take 16 (tones_of pairs.entry.classes.now pairs.entry.intervals.now))) }
 {
     let count = pairs.used().min(MOST);
     let mut tones = [BLANK; MOST];

@@ -89,7 +89,7 @@ impl Present {
 // Adds what stands above the bass: guides, lowest first; tensions below the lead, highest first; the lead.
 pub(crate) fn push_above(keys: &mut Text<ROOM>, led: &Led, span: Span)
     requires { length keys.old ≤ 2 }
-    ensures { keys.new ≡ keys.old ++ above_bass span.lowest span.limit led.now.key led.now.left }
+    ensures { keys.new ≡ keys.old ++ above_bass span.lowest span.limit led.now.key led.now.left.tones }
 {
     let lead = led.key;
     let tones = led.left.tones();

@@ -24,7 +24,7 @@ module _ (lowest : ℕ) (pool : List Tone) (once : ℕ) (sixth seventh : Bool) (
       ∙ ap (λ (n : ℕ). set_of (tension_once (holds_any sixths pool) (holds_any sevenths pool) n)) size)
 
 -- what stands there once the guides are placed, and what the tensions add
-guided : (c : After-push_placed) → c.push_placed.new.keys ≡ c.args.keys.now ++ guide_keys c.args.span.lowest c.args.span.limit c.args.led.now.left
+guided : (c : After-push_placed) → c.push_placed.new.keys ≡ c.args.keys.now ++ guide_keys c.args.span.lowest c.args.span.limit c.args.led.now.left.tones
 unfolding guides set_of
 guided c =
     let span = c.args.span in
@@ -33,7 +33,7 @@ guided c =
     ∙ ap (λ (x : List ℕ). c.args.keys.now ++ x)
     (guide_keys_lem span.lowest c.tones-tones.result.now _ _ _ found.sixth found.seventh span.limit c.guide_once.ensures ∙ ap (guide_keys span.lowest span.limit) c.tones-tones.ensures.tones)
 
-tensed : (c : After-push_placed-2) → c.push_placed-2.new.keys ≡ c.push_placed.new.keys ++ tension_keys c.args.span.lowest c.args.led.now.key c.args.led.now.left
+tensed : (c : After-push_placed-2) → c.push_placed-2.new.keys ≡ c.push_placed.new.keys ++ tension_keys c.args.span.lowest c.args.led.now.key c.args.led.now.left.tones
 unfolding tensions set_of
 tensed c =
     let lowest = c.args.span.lowest in
@@ -47,7 +47,7 @@ tensed c =
 few_guided : (c : After-push_placed) → length c.push_placed.new.keys ≤ 18
 few_guided c =
     let span = c.args.span in
-    let left = c.args.led.now.left in
+    let left = c.args.led.now.left.tones in
     omega (arith, ap length (guided c), length-append c.args.keys.now (guide_keys span.lowest span.limit left), few_guides span.lowest span.limit left, c.tones-tones.ensures.few, c.requires)
 
 pub push_placed-requires-2-clause-room : goal.push_placed-requires-2-clause-room
@@ -60,7 +60,7 @@ returns c =
     let at = goal.at.returns c in
     let lowest = c.args.span.lowest in
     let lead = c.args.led.now.key in
-    let left = c.args.led.now.left in
+    let left = c.args.led.now.left.tones in
     let guides = guide_keys lowest c.args.span.limit left in
     let tensions = tension_keys lowest lead left in
     let g = guided at.After-push_placed in

@@ -33,10 +33,10 @@ returns-in_err-check_pairs c =
 -- what is added to the bass keys, the lead and the pool that it leaves, is what stands above them
 module _ (chord : Chord) (tones : List Tone) (few : length tones ≤ 16) (wanted : ℕ) (told : wanted ≡ wanted_of chord.highest chord.lead) (led : Led)
     (led-is : led ≡ led_of chord.lowest (chord.highest + 1) wanted (sorted (take 16 tones))) where
-  above_is : above_bass chord.lowest (chord.highest + 1) led.key led.left ≡ above chord.lowest (suc chord.highest) (wanted_of chord.highest chord.lead) (sorted tones)
+  above_is : above_bass chord.lowest (chord.highest + 1) led.key led.left.tones ≡ above chord.lowest (suc chord.highest) (wanted_of chord.highest chord.lead) (sorted tones)
   unfolding led_of above
   above_is =
-      ap (λ (x : Led). above_bass chord.lowest (chord.highest + 1) x.key x.left) led-is
+      ap (λ (x : Led). above_bass chord.lowest (chord.highest + 1) x.key x.left.tones) led-is
       ∙ ap₂ (λ (w : ℕ) (l : List Tone). above chord.lowest (chord.highest + 1) w (sorted l)) told (take_all 16 tones few)
       ∙ rw add-one
 
