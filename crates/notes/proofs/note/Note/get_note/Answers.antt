@@ -31,6 +31,10 @@ returns-then-degree-gt14 c =
     let least : 0 < c.args.degree = omega arith in
     simp ((is (goal.at.returns-then-degree-gt14 c).In_ok-note).0, le-leb _ _ c.if-semitones-gt24.false, le-leb _ _ least, lt-leb _ _ c.if-degree-gt14.true)
 
+-- found without this too: it stands here so that a degree past 14 fails at it, whatever the test before it is called
+pub moved-requires : goal.moved-requires
+moved-requires c = (omega arith, omega arith, omega arith)
+
 pub returns : goal.returns
 unfolding get_note_answer
 returns c =
