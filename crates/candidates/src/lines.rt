@@ -49,6 +49,10 @@ fn push_lines(written: &mut Text<ROOM>, names: Names, classes: &Classes)
 pub fn candidates_in(names: Names, keys: &[u8], out: &mut [u8]) -> Result<usize, Refusal>
     ensures { Answered (text (candidates_of (table_of names) keys.now)) out.old result out.new }
 {
+    if keys.is_empty() {
+        // Before the text, whose memory is cleared.
+        return Ok(0);
+    }
     let mut written = Text::new();
     push_lines(&mut written, names, &Classes::of(keys));
     written.give(out)
