@@ -40,6 +40,8 @@ impl<const N: usize> Text<N> {
         ensures { self.new ≡ with_word N self.old word }
     {
         let at = self.length;
+
+        // As `put` tests it, which is inlined: the test is made once.
         if N < 8 || N - 8 < at {
             return;
         }

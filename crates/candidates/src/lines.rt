@@ -50,7 +50,7 @@ pub fn candidates_in(names: Names, keys: &[u8], out: &mut [u8]) -> Result<usize,
     ensures { Answered (text (candidates_of (table_of names) keys.now)) out.old result out.new }
 {
     if keys.is_empty() {
-        // Before the text, whose memory is cleared.
+        // Here, since the memory of a text has to be cleared first.
         return Ok(0);
     }
     let mut written = Text::new();

@@ -1,7 +1,7 @@
 -- Determinacy of the crate's public contracts (`Rattle.answer.proofs.Determined` has the law).
 --     F-decides      the contract of `F` allows one answer to each call
 use Rattle.answer.proofs.Kit.{◌≡◌, List, [], ◌∷◌, Option, Some, None}
-use Rattle.answer.proofs.Determined.{Decides, determined}
+use Rattle.answer.proofs.Determined.{Decides, DecidesWith, determined}
 use Rattle.std.specs.Iterator.{YieldsFirst}
 use Rattle.intervals.specs.declared.interval.Interval.{Interval}
 use Rattle.descriptors.proofs.classes.intervals.Reads as intervals
@@ -33,5 +33,5 @@ one_first None (Some y) s t t' p q = (cc, cc)
 one_first (Some x) None s t t' p q = (cc, cc)
 one_first (Some x) (Some y) s t t' p q = (cc, cc)
 
-pub next_decides : Decides next.Post × ((κs : _) (a : _) (r r' : Option Interval) (s s' : _) → next.Post κs a r s → next.Post κs a r' s' → s.0.now ≡ s'.0.now)
-next_decides = (λ κs a r r' s s' p q. (one_first r r' _ _ _ p.0 q.0).0, λ κs a r r' s s' p q. (one_first r r' _ _ _ p.0 q.0).1)
+pub next_decides : DecidesWith next.Post (λ κs s. s.0.now)
+next_decides κs a r r' s s' p q = one_first r r' _ _ _ p.0 q.0
